@@ -1,0 +1,4 @@
+pub mod Preference
+pub mod Coalition
+pub mod Model
+pub mod Examples
