@@ -1,0 +1,8 @@
+pub mod Powers
+pub mod MantissaFacts
+pub mod DigitFacts
+pub mod QuotientFacts
+pub mod ExponentFacts
+pub mod NumeralFacts
+pub mod SpellingFacts
+pub mod ReadsBack

@@ -1,0 +1,5 @@
+pub mod Mantissa
+pub mod Numeral
+pub mod Parts
+pub mod Spelling
+pub mod Value

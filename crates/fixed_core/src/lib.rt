@@ -1,0 +1,17 @@
+//! Exact decimal numbers: reading, the one spelling, order and sum.
+#![tactic(auto)]
+
+mod fault;
+mod fixed;
+mod mantissa;
+mod numeral;
+mod read;
+mod spelling;
+
+pub use fault::FixedFault;
+pub use fixed::{Fixed, MOST_UNITS, add, at_least};
+pub use read::read_fixed;
+pub use spelling::put_fixed;
+
+#[cfg(test)]
+mod tests;

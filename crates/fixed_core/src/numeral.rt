@@ -1,0 +1,115 @@
+//! A number text, cut into its parts.
+
+ghost use Rattle.std.specs.Prelude.{◌≡◌, ◌≤◌, not, position, length, option_map, IfSome};
+ghost use Rattle.std.specs.List.{list_all};
+ghost use Rattle.std.specs.Char.{is_ascii_digit};
+ghost use Rattle.std.specs.Str.Parse.{AllDigits};
+ghost use Rattle.fixed_core.specs.Numeral.{digits_len, front_digits, after_digits, is_minus, after_sign, fraction_digits, after_fraction, exponent_of, numeral_of};
+ghost use Rattle.fixed_core.specs.Parts.{numeral_in};
+
+// A number text, cut into its parts.
+#[derive(Drop)]
+pub struct Parts<'a> {
+    pub negative: bool,
+    pub whole: &'a [u8],
+    pub fraction: &'a [u8],
+    pub lowers: bool,
+    pub exponent: &'a [u8],
+}
+
+// The place of the first that is no digit.
+fn first_other(text: &[u8]) -> Option<usize>
+    ensures { result ≡ position (λ c. not (is_ascii_digit c)) text.now }
+{
+    text.iter().position(|c| !c.is_ascii_digit())
+}
+
+// How many digits are in front.
+fn digits_len(text: &[u8]) -> usize
+    ensures len { result ≡ digits_len text.now }
+    ensures within { result ≤ length text.now }
+{
+    first_other(text).unwrap_or(text.len())
+}
+
+// Whether all are digits.
+fn all_digits(text: &[u8]) -> bool
+    ensures { result ≡ list_all is_ascii_digit text.now }
+{
+    text.iter().all(|c| c.is_ascii_digit())
+}
+
+// The digits at the front, and the rest.
+fn split_digits(text: &[u8]) -> (&[u8], &[u8])
+    ensures digits { result.0.now ≡ front_digits text.now }
+    ensures rest { result.1.now ≡ after_digits text.now }
+    ensures all { AllDigits 10 result.0.now }
+{
+    text.split_at(digits_len(text))
+}
+
+// Whether a `-` is in front, and what follows an optional sign.
+fn split_sign(text: &[u8]) -> (bool, &[u8])
+    ensures sign { result.0 ≡ is_minus text.now }
+    ensures rest { result.1.now ≡ after_sign text.now }
+{
+    match text {
+        [b'-', rest @ ..] => (true, rest),
+        [b'+', rest @ ..] => (false, rest),
+        _ => (false, text),
+    }
+}
+
+// The digits after a point, and the rest.
+fn split_fraction(text: &[u8]) -> (&[u8], &[u8])
+    ensures digits { result.0.now ≡ fraction_digits text.now }
+    ensures rest { result.1.now ≡ after_fraction text.now }
+    ensures all { AllDigits 10 result.0.now }
+{
+    match text {
+        [b'.', rest @ ..] => split_digits(rest),
+        _ => (&text[..0], text),
+    }
+}
+
+// The sign and the digits of an exponent, which is all that is left of a text.
+fn exponent_parts(text: &[u8]) -> Option<(bool, &[u8])>
+    ensures value { option_map (λ e. (e.0, e.1.now)) result ≡ exponent_of text.now }
+    ensures all { IfSome result (λ e. AllDigits 10 e.1.now) }
+{
+    match text {
+        [] => Some((false, text)),
+        [b'e' | b'E', rest @ ..] => {
+            let (lowers, digits) = split_sign(rest);
+            if !digits.is_empty() && all_digits(digits) {
+                Some((lowers, digits))
+            } else {
+                None
+            }
+        }
+        _ => None,
+    }
+}
+
+// The parts of a number text.
+pub fn parts_of(text: &[u8]) -> Option<Parts<'_>>
+    ensures value { option_map numeral_in result ≡ numeral_of text.now }
+    ensures whole { IfSome result (λ p. AllDigits 10 p.whole.now) }
+    ensures fraction { IfSome result (λ p. AllDigits 10 p.fraction.now) }
+    ensures exponent { IfSome result (λ p. AllDigits 10 p.exponent.now) }
+{
+    let (negative, body) = split_sign(text);
+    let (whole, rest) = split_digits(body);
+    let (fraction, rest) = split_fraction(rest);
+    if whole.is_empty() && fraction.is_empty() {
+        return None;
+    }
+    let (lowers, exponent) = exponent_parts(rest)?;
+    Some(Parts {
+        negative,
+        whole,
+        fraction,
+        lowers,
+        exponent,
+    })
+}

@@ -1,0 +1,72 @@
+//! Reading a number text.
+
+ghost use Rattle.std.specs.Prelude.{◌≡◌, ℕ, ◌+◌, ◌*◌, ◌^◌, ◌<◌, ◌≤◌, min, if◌then◌else◌};
+ghost use Rattle.fixed_core.specs.Mantissa.{IsMantissa};
+ghost use Rattle.fixed_core.specs.Value.{fixed_of, fixed_quotient};
+
+use crate::fault::FixedFault;
+use crate::fixed::{Fixed, MOST_UNITS, with_sign};
+use crate::mantissa::{Mantissa, capped_value, push_digits, shifted};
+use crate::numeral::parts_of;
+
+/// The number of a text, or the first fault that holds of it. Sign, mantissa and exponent may have
+/// any number of digits: only the value counts. Takes no memory.
+pub fn read_fixed(text: &str) -> Result<Fixed, FixedFault>
+    ensures answer { result ≡ fixed_of text.now }
+{
+    let Some(parts) = parts_of(text.as_bytes()) else {
+        return Err(FixedFault::Shape);
+    };
+    let none = Mantissa {
+        value: 0,
+        zeros: 0,
+        large: false,
+    };
+    let whole = push_digits(none, parts.whole);
+    let all = push_digits(whole, parts.fraction);
+    let exponent = capped_value(parts.exponent);
+    fixed_from(
+        parts.negative,
+        all,
+        parts.lowers,
+        exponent,
+        parts.fraction.len() as u128,
+    )
+}
+
+fn or_zero(takes: bool, n: u128) -> u128
+    ensures { result ≡ (if takes then n else 0) }
+{
+    if takes { n } else { 0 }
+}
+
+// The number of a mantissa, with so many digits after the point and an exponent, which may be capped.
+fn fixed_from(
+    negative: bool,
+    m: Mantissa,
+    lowers: bool,
+    exponent: u128,
+    scale: u128,
+) -> Result<Fixed, FixedFault>
+    requires zeros { m.zeros < 2 ^ 64 }
+    requires scale { scale < 2 ^ 64 }
+    requires exponent { exponent ≤ 100000000000000000000 }
+    ensures { (n e : ℕ) → IsMantissa n m → exponent ≡ min e 100000000000000000000
+        → result ≡ fixed_quotient negative (n * 10 ^ (18 + (if lowers then 0 else e))) (10 ^ (scale + (if lowers then e else 0))) }
+{
+    if !m.large && m.value == 0 {
+        return Ok(with_sign(false, 0));
+    }
+    let raised = m.zeros + 18 + or_zero(!lowers, exponent);
+    let lowered = scale + or_zero(lowers, exponent);
+    if raised < lowered {
+        return Err(FixedFault::Digits);
+    }
+    if m.large {
+        return Err(FixedFault::Range);
+    }
+    match shifted(m.value, raised - lowered) {
+        Some(units) if units <= MOST_UNITS => Ok(with_sign(negative, units)),
+        _ => Err(FixedFault::Range),
+    }
+}
