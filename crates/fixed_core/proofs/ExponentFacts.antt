@@ -2,7 +2,7 @@
 use Rattle.std.proofs.Common.{◌≡◌, ◌≢◌, ℕ, suc, ◌+◌, ◌-◌, ◌*◌, ◌^◌, ◌<◌, ◌≤◌, Bool, true, false, not, min, inl, inr, nat_le, arith, if◌then◌else◌}
 use Rattle.std.proofs.Math.Nat.{mul-le-mul_left}
 use Rattle.std.proofs.lemmas.Bool.{cases_Bool, leb-true, leb-false}
-use Rattle.fixed_core.proofs.Powers.{shifted_far, pow_up}
+use Rattle.fixed_core.proofs.PowerFacts.{shifted_far, pow_up}
 
 -- the point moves to the left of a last digit, by more than the code has seen
 pub digits-gap : (lowers : Bool) (zeros exponent e scale raised lowered : ℕ) → exponent ≡ min e 100000000000000000000 → zeros < 2 ^ 64 → scale < 2 ^ 64

@@ -1,4 +1,4 @@
-pub mod Powers
+pub mod PowerFacts
 pub mod MantissaFacts
 pub mod DigitFacts
 pub mod QuotientFacts

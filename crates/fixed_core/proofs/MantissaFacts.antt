@@ -4,7 +4,7 @@ use Rattle.std.proofs.lemmas.Bool.{cases_Bool}
 use Rattle.std.proofs.lemmas.Nat.{mod-mul-add}
 use Rattle.fixed_core.specs.declared.mantissa.Mantissa.{Mantissa}
 use Rattle.fixed_core.specs.Mantissa.{IsMantissa}
-use Rattle.fixed_core.proofs.Powers.{pow_more, pow_least}
+use Rattle.fixed_core.proofs.PowerFacts.{pow_more, pow_least}
 use Rattle.std.proofs.Math.Nat.{mul-le-mul_left}
 
 -- one more zero at the end of a number that is not 0

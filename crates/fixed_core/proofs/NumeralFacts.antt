@@ -13,12 +13,7 @@ use Rattle.fixed_core.specs.Value.{fixed_of, fixed_of_numeral, fixed_quotient, m
 use Rattle.fixed_core.specs.declared.fault.FixedFault.TheVariants.{Shape}
 use Rattle.fixed_core.specs.declared.mantissa.Mantissa.{Mantissa}
 use Rattle.fixed_core.specs.Mantissa.{IsMantissa}
-
--- a code that passes the test is a digit
-pub digit_test : (c : ℕ) → is_ascii_digit c ≡ true → digit_value c < 10
-digit_test c h =
-    let one : all_ascii_digits (c ∷ []) ≡ true = rw h refl in
-    (tells_digits.more c [] (tells_all_ascii_digits.parts c [] one).0 tt).0
+use Rattle.fixed_core.proofs.DigitFacts.{digit_test}
 
 pub all_digits_test : (cs : List ℕ) → list_all is_ascii_digit cs ≡ true → AllDigits 10 cs
 all_digits_test [] h = tt

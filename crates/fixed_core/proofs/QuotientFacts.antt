@@ -9,7 +9,7 @@ use Rattle.fixed_core.specs.declared.fault.FixedFault.{FixedFault}
 use Rattle.fixed_core.specs.declared.fault.FixedFault.TheVariants.{Shape, Digits, Range}
 use Rattle.std.proofs.Math.Arith.{mod-mul}
 use Rattle.std.proofs.lemmas.Nat.{pow-add}
-use Rattle.fixed_core.proofs.Powers.{pow_least}
+use Rattle.fixed_core.proofs.PowerFacts.{pow_least}
 
 -- the digits and what they are multiplied by, where the division leaves nothing
 pub scaled-split : (head zeros raised lowered k : ℕ) → zeros + raised ≡ k + lowered → head * 10 ^ zeros * 10 ^ raised ≡ head * 10 ^ k * 10 ^ lowered

@@ -18,8 +18,8 @@ use Rattle.fixed_core.specs.Numeral.{front_digits, after_digits, is_minus, after
 use Rattle.fixed_core.specs.Value.{fixed_of, signed}
 use Rattle.fixed_core.specs.Spelling.{short_digits, point_digits, sign_text, spelling_of, spelling}
 use Rattle.fixed_core.specs.declared.fault.FixedFault.{FixedFault}
-use Rattle.fixed_core.proofs.Powers.{pow_least}
-use Rattle.fixed_core.proofs.DigitFacts.{digits_after_append}
+use Rattle.fixed_core.proofs.PowerFacts.{pow_least}
+use Rattle.fixed_core.proofs.DigitFacts.{digits_after_append, digit_passes}
 use Rattle.fixed_core.proofs.NumeralFacts.{first_other, front_all, numeral-some, fixed-numeral, fixed-quotient}
 use Rattle.fixed_core.proofs.QuotientFacts.{quotient-ok}
 use Rattle.fixed_core.proofs.SpellingFacts.{short-zero, short-more, first_place}
@@ -28,11 +28,6 @@ use Rattle.fixed_core.proofs.SpellingFacts.{short-zero, short-more, first_place}
 abbrev StartsOther : List ℕ → Type 0
 StartsOther [] = Unit {0}
 StartsOther (c ∷ cs) = is_ascii_digit c ≡ false
-
-digit_passes : (c : ℕ) → digit_value c < 10 → is_ascii_digit c ≡ true
-digit_passes c h =
-    let one : (is_ascii_digit c && true) ≡ true = tells_all_ascii_digits.more c [] (digit_from_value c h) refl in
-    sym (and-true (is_ascii_digit c)) ∙ one
 
 front_len : (ds rest : List ℕ) → AllDigits 10 ds → StartsOther rest → position_or_len (λ c. not (is_ascii_digit c)) (ds ++ rest) ≡ length ds
 front_len [] [] all other = refl

@@ -5,6 +5,7 @@ mod fault;
 mod fixed;
 mod mantissa;
 mod numeral;
+mod powers;
 mod read;
 mod spelling;
 

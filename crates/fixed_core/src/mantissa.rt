@@ -4,6 +4,8 @@ ghost use Rattle.std.specs.Prelude.{◌≡◌, ℕ, ◌+◌, ◌*◌, ◌^◌, �
 ghost use Rattle.std.specs.Str.Parse.{AllDigits, digits_value, digits_value_after};
 ghost use Rattle.fixed_core.specs.Mantissa.{IsMantissa};
 
+use crate::powers::{MOST_POWER, power_of_ten};
+
 // One more than the greatest number of digits' value that is kept.
 const LIMIT: u128 = 10_000_000_000_000_000_000_000_000_000_000_000_000;
 
@@ -25,12 +27,30 @@ pub fn shifted(value: u128, by: u128) -> Option<u128>
     if value == 0 {
         return Some(0);
     }
-    if by > 37 {
+    if by > MOST_POWER as u128 {
         return None;
     }
-    match value.checked_mul(10u128.pow(by as u32)) {
+    match value.checked_mul(power_of_ten(by as usize)) {
         Some(r) if r < LIMIT => Some(r),
         _ => None,
+    }
+}
+
+// The mantissa of a number.
+pub fn stripped(number: u64) -> Mantissa
+    ensures tracks { IsMantissa number result }
+    ensures zeros { result.zeros < 2 ^ 64 }
+{
+    let mut value = number;
+    let mut zeros = 0u64;
+    while value != 0 && value % 10 == 0 {
+        value /= 10;
+        zeros += 1;
+    }
+    Mantissa {
+        value: u128::from(value),
+        zeros: u128::from(zeros),
+        large: false,
     }
 }
 

@@ -1,9 +1,9 @@
 //! A number text, cut into its parts.
 
-ghost use Rattle.std.specs.Prelude.{◌≡◌, ◌≤◌, not, position, length, option_map, IfSome};
+ghost use Rattle.std.specs.Prelude.{◌≡◌, ◌≤◌, ◌%◌, ◌^◌, ◌++◌, length, option_map, IfSome};
 ghost use Rattle.std.specs.List.{list_all};
 ghost use Rattle.std.specs.Char.{is_ascii_digit};
-ghost use Rattle.std.specs.Str.Parse.{AllDigits};
+ghost use Rattle.std.specs.Str.Parse.{AllDigits, digits_value, digits_value_after};
 ghost use Rattle.fixed_core.specs.Numeral.{digits_len, front_digits, after_digits, is_minus, after_sign, fraction_digits, after_fraction, exponent_of, numeral_of};
 ghost use Rattle.fixed_core.specs.Parts.{numeral_in};
 
@@ -15,21 +15,24 @@ pub struct Parts<'a> {
     pub fraction: &'a [u8],
     pub lowers: bool,
     pub exponent: &'a [u8],
+    // The low 64 bits of the number of the digits before and after the point.
+    pub low: u64,
 }
 
-// The place of the first that is no digit.
-fn first_other(text: &[u8]) -> Option<usize>
-    ensures { result ≡ position (λ c. not (is_ascii_digit c)) text.now }
+// How many digits are in front, and the low 64 bits of their number after the digits of `start`.
+fn count_digits(text: &[u8], start: u64) -> (usize, u64)
+    ensures len { result.0 ≡ digits_len text.now }
+    ensures within { result.0 ≤ length text.now }
+    ensures low { result.1 ≡ digits_value_after 10 start (front_digits text.now) % 2 ^ 64 }
 {
-    text.iter().position(|c| !c.is_ascii_digit())
-}
-
-// How many digits are in front.
-fn digits_len(text: &[u8]) -> usize
-    ensures len { result ≡ digits_len text.now }
-    ensures within { result ≤ length text.now }
-{
-    first_other(text).unwrap_or(text.len())
+    let mut low = start;
+    for (k, c) in text.iter().enumerate() {
+        if !c.is_ascii_digit() {
+            return (k, low);
+        }
+        low = low.wrapping_mul(10).wrapping_add(u64::from(*c - b'0'));
+    }
+    (text.len(), low)
 }
 
 // Whether all are digits.
@@ -39,13 +42,16 @@ fn all_digits(text: &[u8]) -> bool
     text.iter().all(|c| c.is_ascii_digit())
 }
 
-// The digits at the front, and the rest.
-fn split_digits(text: &[u8]) -> (&[u8], &[u8])
+// The digits at the front, the rest, and the low 64 bits of the digits' number after `start`.
+fn split_digits(text: &[u8], start: u64) -> (&[u8], &[u8], u64)
     ensures digits { result.0.now ≡ front_digits text.now }
     ensures rest { result.1.now ≡ after_digits text.now }
     ensures all { AllDigits 10 result.0.now }
+    ensures low { result.2 ≡ digits_value_after 10 start result.0.now % 2 ^ 64 }
 {
-    text.split_at(digits_len(text))
+    let (len, low) = count_digits(text, start);
+    let (digits, rest) = text.split_at(len);
+    (digits, rest, low)
 }
 
 // Whether a `-` is in front, and what follows an optional sign.
@@ -60,15 +66,16 @@ fn split_sign(text: &[u8]) -> (bool, &[u8])
     }
 }
 
-// The digits after a point, and the rest.
-fn split_fraction(text: &[u8]) -> (&[u8], &[u8])
+// The digits after a point, the rest, and the low 64 bits of the digits' number after `start`.
+fn split_fraction(text: &[u8], start: u64) -> (&[u8], &[u8], u64)
     ensures digits { result.0.now ≡ fraction_digits text.now }
     ensures rest { result.1.now ≡ after_fraction text.now }
     ensures all { AllDigits 10 result.0.now }
+    ensures low { result.2 ≡ digits_value_after 10 start result.0.now % 2 ^ 64 }
 {
     match text {
-        [b'.', rest @ ..] => split_digits(rest),
-        _ => (&text[..0], text),
+        [b'.', rest @ ..] => split_digits(rest, start),
+        _ => (&text[..0], text, start),
     }
 }
 
@@ -97,10 +104,11 @@ pub fn parts_of(text: &[u8]) -> Option<Parts<'_>>
     ensures whole { IfSome result (λ p. AllDigits 10 p.whole.now) }
     ensures fraction { IfSome result (λ p. AllDigits 10 p.fraction.now) }
     ensures exponent { IfSome result (λ p. AllDigits 10 p.exponent.now) }
+    ensures low { IfSome result (λ p. p.low ≡ digits_value 10 (p.whole.now ++ p.fraction.now) % 2 ^ 64) }
 {
     let (negative, body) = split_sign(text);
-    let (whole, rest) = split_digits(body);
-    let (fraction, rest) = split_fraction(rest);
+    let (whole, rest, low) = split_digits(body, 0);
+    let (fraction, rest, low) = split_fraction(rest, low);
     if whole.is_empty() && fraction.is_empty() {
         return None;
     }
@@ -111,5 +119,6 @@ pub fn parts_of(text: &[u8]) -> Option<Parts<'_>>
         fraction,
         lowers,
         exponent,
+        low,
     })
 }

@@ -1,13 +1,17 @@
 //! Reading a number text.
 
-ghost use Rattle.std.specs.Prelude.{◌≡◌, ℕ, ◌+◌, ◌*◌, ◌^◌, ◌<◌, ◌≤◌, min, if◌then◌else◌};
+ghost use Rattle.std.specs.Prelude.{◌≡◌, ℕ, ◌+◌, ◌*◌, ◌%◌, ◌^◌, ◌<◌, ◌≤◌, ◌++◌, min, if◌then◌else◌};
+ghost use Rattle.std.specs.Str.Parse.{AllDigits, digits_value};
 ghost use Rattle.fixed_core.specs.Mantissa.{IsMantissa};
 ghost use Rattle.fixed_core.specs.Value.{fixed_of, fixed_quotient};
 
 use crate::fault::FixedFault;
 use crate::fixed::{Fixed, MOST_UNITS, with_sign};
-use crate::mantissa::{Mantissa, capped_value, push_digits, shifted};
+use crate::mantissa::{Mantissa, capped_value, push_digits, shifted, stripped};
 use crate::numeral::parts_of;
+
+// So many digits have a number below 2^64.
+const SHORT_DIGITS: usize = 19;
 
 /// The number of a text, or the first fault that holds of it. Sign, mantissa and exponent may have
 /// any number of digits: only the value counts. Takes no memory.
@@ -17,21 +21,32 @@ pub fn read_fixed(text: &str) -> Result<Fixed, FixedFault>
     let Some(parts) = parts_of(text.as_bytes()) else {
         return Err(FixedFault::Shape);
     };
+    fixed_from(
+        parts.negative,
+        mantissa_of(parts.whole, parts.fraction, parts.low),
+        parts.lowers,
+        capped_value(parts.exponent),
+        parts.fraction.len() as u128,
+    )
+}
+
+// The mantissa of the digits before and after a point, whose number's low 64 bits are at hand.
+fn mantissa_of(whole: &[u8], fraction: &[u8], low: u64) -> Mantissa
+    requires whole { AllDigits 10 whole.now }
+    requires fraction { AllDigits 10 fraction.now }
+    requires low { low ≡ digits_value 10 (whole.now ++ fraction.now) % 2 ^ 64 }
+    ensures tracks { IsMantissa (digits_value 10 (whole.now ++ fraction.now)) result }
+    ensures zeros { result.zeros < 2 ^ 64 }
+{
+    if whole.len() + fraction.len() <= SHORT_DIGITS {
+        return stripped(low);
+    }
     let none = Mantissa {
         value: 0,
         zeros: 0,
         large: false,
     };
-    let whole = push_digits(none, parts.whole);
-    let all = push_digits(whole, parts.fraction);
-    let exponent = capped_value(parts.exponent);
-    fixed_from(
-        parts.negative,
-        all,
-        parts.lowers,
-        exponent,
-        parts.fraction.len() as u128,
-    )
+    push_digits(push_digits(none, whole), fraction)
 }
 
 fn or_zero(takes: bool, n: u128) -> u128

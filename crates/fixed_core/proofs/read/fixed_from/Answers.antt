@@ -1,7 +1,7 @@
 use Rattle.std.proofs.Common.{◌≡◌, ◌≢◌, ◌≤◌, ◌<◌, ◌^◌, ◌+◌, ◌-◌, ◌*◌, ℕ, ◌∙◌, sym, ap, arith, true≢false, false, true, if◌then◌else◌}
 use Rattle.std.proofs.lemmas.Nat.{mul-le}
 use Rattle.fixed_core.specs.Mantissa.{IsMantissa}
-use Rattle.fixed_core.proofs.Powers.{pow_least}
+use Rattle.fixed_core.proofs.PowerFacts.{pow_least}
 use Rattle.fixed_core.proofs.MantissaFacts.{mantissa-ends, not_true}
 use Rattle.fixed_core.proofs.ExponentFacts.{digits-gap, moves-right, near_enough, farther, Moves}
 use Rattle.fixed_core.proofs.QuotientFacts.{quotient-ok, quotient-range, quotient-digits, quotient-zero}

@@ -1,10 +1,8 @@
 use Rattle.std.proofs.Common.{◌≡◌, sym, ◌∙◌, ◌++◌, Some}
 use Rattle.std.specs.Str.Parse.{digits_value}
-use Rattle.fixed_core.specs.Mantissa.{IsMantissa}
 use Rattle.fixed_core.specs.Numeral.{numeral_of}
 use Rattle.fixed_core.specs.Parts.{numeral_in}
-use Rattle.fixed_core.proofs.DigitFacts.{digits_after_append}
-use Rattle.fixed_core.proofs.NumeralFacts.{fixed-shape, fixed-numeral, fixed-quotient, mantissa-start}
+use Rattle.fixed_core.proofs.NumeralFacts.{fixed-shape, fixed-numeral, fixed-quotient}
 use Rattle.fixed_core.proofs.read.read_fixed.Goals as goal
 
 pub returns-in_default : goal.returns-in_default
@@ -14,6 +12,4 @@ pub returns : goal.returns
 returns c =
     let p = c.in-Some.parts in
     let number : numeral_of c.args.text.now ≡ Some (numeral_in p) = rw c.as_bytes.ensures.value at (sym c.in-Some.ensures.value) in
-    let tracks : IsMantissa (digits_value 10 (p.whole.now ++ p.fraction.now)) c.push_digits-all.result =
-    rw (digits_after_append 0 p.whole.now p.fraction.now) (c.push_digits-all.ensures.tracks _ (c.push_digits-whole.ensures.tracks 0 mantissa-start)) in
-    record { answer = c.fixed_from.ensures _ (digits_value 10 p.exponent.now) tracks c.capped_value-exponent.ensures ∙ sym (fixed-numeral c.args.text.now (numeral_in p) number ∙ fixed-quotient (numeral_in p)) }
+    record { answer = c.fixed_from.ensures _ (digits_value 10 p.exponent.now) c.mantissa_of.ensures.tracks c.capped_value.ensures ∙ sym (fixed-numeral c.args.text.now (numeral_in p) number ∙ fixed-quotient (numeral_in p)) }
