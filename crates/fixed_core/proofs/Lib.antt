@@ -1,8 +1,10 @@
-pub mod PowerFacts
-pub mod MantissaFacts
 pub mod DigitFacts
-pub mod QuotientFacts
 pub mod ExponentFacts
+pub mod MantissaFacts
+pub mod Meaning
 pub mod NumeralFacts
-pub mod SpellingFacts
+pub mod PowerFacts
+pub mod QuotientFacts
 pub mod ReadsBack
+pub mod Spelled
+pub mod SpellingFacts

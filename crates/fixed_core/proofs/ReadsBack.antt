@@ -25,7 +25,7 @@ use Rattle.fixed_core.proofs.QuotientFacts.{quotient-ok}
 use Rattle.fixed_core.proofs.SpellingFacts.{short-zero, short-more, first_place}
 
 -- the text does not go on with a digit
-abbrev StartsOther : List ℕ → Type 0
+abbrev pub StartsOther : List ℕ → Type 0
 StartsOther [] = Unit {0}
 StartsOther (c ∷ cs) = is_ascii_digit c ≡ false
 

@@ -3,6 +3,7 @@
 
 mod fault;
 mod fixed;
+mod laws;
 mod mantissa;
 mod numeral;
 mod powers;
@@ -11,6 +12,7 @@ mod spelling;
 
 pub use fault::FixedFault;
 pub use fixed::{Fixed, MOST_UNITS, add, at_least};
+pub use laws::computed_numeral_is_the_spelled_one;
 pub use read::read_fixed;
 pub use spelling::put_fixed;
 

@@ -3,6 +3,7 @@
 ghost use Rattle.std.specs.Prelude.{◌≡◌, ℕ, ◌+◌, ◌*◌, ◌%◌, ◌^◌, ◌<◌, ◌≤◌, ◌++◌, min, if◌then◌else◌};
 ghost use Rattle.std.specs.Str.Parse.{AllDigits, digits_value};
 ghost use Rattle.fixed_core.specs.Mantissa.{IsMantissa};
+ghost use Rattle.fixed_core.specs.Reads.{ReadsAs};
 ghost use Rattle.fixed_core.specs.Value.{fixed_of, fixed_quotient};
 
 use crate::fault::FixedFault;
@@ -17,6 +18,7 @@ const SHORT_DIGITS: usize = 19;
 /// any number of digits: only the value counts. Takes no memory.
 pub fn read_fixed(text: &str) -> Result<Fixed, FixedFault>
     ensures answer { result ≡ fixed_of text.now }
+    ensures meaning { ReadsAs text.now result }
 {
     let Some(parts) = parts_of(text.as_bytes()) else {
         return Err(FixedFault::Shape);
