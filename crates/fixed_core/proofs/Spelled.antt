@@ -88,21 +88,21 @@ spelled text =
       | inl none ↦ rw none tt
       | inr some ↦ rw some (map_some _ (λ e. IsExponent e.0 e.1 (after_fraction rest) × AllDigits 10 e.1) (λ n. Spells text n)
           (λ e h.
-            let sign = sign_part text in
-            let fraction = fraction_part rest in
-            record {
-              sign = sign.sign;
-              point = fraction.part;
-              power = after_fraction rest;
-              is = sign.is ∙ ap (λ t. sign.sign ++ t) (sym (take-append-drop (digits_len body) body) ∙ ap (λ t. front_digits body ++ t) fraction.is);
-              is_sign = sign.is_sign;
-              is_fraction = fraction.is_fraction;
-              is_exponent = h.0;
-              whole = front_all body;
-              fraction = fraction.all;
-              exponent = h.1;
-              some = let there : length (front_digits body) + length (fraction_digits rest) ≢ 0 = eqb-false (length (front_digits body) + length (fraction_digits rest)) 0 some in omega (arith, there);
-            })
+          let sign = sign_part text in
+          let fraction = fraction_part rest in
+          record {
+            sign = sign.sign;
+            point = fraction.part;
+            power = after_fraction rest;
+            is = sign.is ∙ ap (λ t. sign.sign ++ t) (sym (take-append-drop (digits_len body) body) ∙ ap (λ t. front_digits body ++ t) fraction.is);
+            is_sign = sign.is_sign;
+            is_fraction = fraction.is_fraction;
+            is_exponent = h.0;
+            whole = front_all body;
+            fraction = fraction.all;
+            exponent = h.1;
+            some = let there : length (front_digits body) + length (fraction_digits rest) ≢ 0 = eqb-false (length (front_digits body) + length (fraction_digits rest)) 0 some in omega (arith, there);
+          })
           (exponent_of (after_fraction rest)) (exponent_part (after_fraction rest)))
     ]
 

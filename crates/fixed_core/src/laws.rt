@@ -8,5 +8,4 @@ ghost use Rattle.fixed_core.specs.Spells.{Spells};
 /// none.
 pub fn computed_numeral_is_the_spelled_one(text: &str)
     ensures { (n : Numeral) → (numeral_of text.now ≡ Some n) ↔ Spells text.now n }
-{
-}
+{}

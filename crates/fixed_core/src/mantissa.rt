@@ -6,13 +6,14 @@ ghost use Rattle.fixed_core.specs.Mantissa.{IsMantissa};
 
 use crate::powers::{MOST_POWER, power_of_ten};
 
-// One more than the greatest number of digits' value that is kept.
+// Numbers from here on are kept as large alone: they are over the greatest number of units.
 const LIMIT: u128 = 10_000_000_000_000_000_000_000_000_000_000_000_000;
 
-// The greatest exponent that is told apart.
-const MOST_EXPONENT: u128 = 100_000_000_000_000_000_000;
+/// Exponents from here on are taken as this one: no text in memory has as many digits, so the point
+/// moves past all of them.
+pub const MOST_EXPONENT: u128 = 100_000_000_000_000_000_000;
 
-// The digits of a mantissa without the zeros at its end: their number, if it is below `LIMIT`.
+// A number by its digits without the zeros at its end: what they say, if that is below `LIMIT`.
 #[derive(Clone, Copy)]
 pub struct Mantissa {
     pub value: u128,
@@ -57,7 +58,7 @@ pub fn stripped(number: u64) -> Mantissa
 // The number of the digits, or `MOST_EXPONENT` where it is greater.
 pub fn capped_value(digits: &[u8]) -> u128
     requires { AllDigits 10 digits.now }
-    ensures { result ≡ min (digits_value 10 digits.now) 100000000000000000000 }
+    ensures { result ≡ min (digits_value 10 digits.now) MOST_EXPONENT }
 {
     let mut value: u128 = 0;
     for c in digits {

@@ -8,8 +8,11 @@ ghost use Rattle.fixed_core.specs.Value.{fixed_of, fixed_quotient};
 
 use crate::fault::FixedFault;
 use crate::fixed::{Fixed, MOST_UNITS, with_sign};
-use crate::mantissa::{Mantissa, capped_value, push_digits, shifted, stripped};
+use crate::mantissa::{MOST_EXPONENT, Mantissa, capped_value, push_digits, shifted, stripped};
 use crate::numeral::parts_of;
+
+// The places of a unit after the point.
+const PLACES: u128 = 18;
 
 // So many digits have a number below 2^64.
 const SHORT_DIGITS: usize = 19;
@@ -51,13 +54,14 @@ fn mantissa_of(whole: &[u8], fraction: &[u8], low: u64) -> Mantissa
     push_digits(push_digits(none, whole), fraction)
 }
 
+// `n` or nothing.
 fn or_zero(takes: bool, n: u128) -> u128
     ensures { result ≡ (if takes then n else 0) }
 {
     if takes { n } else { 0 }
 }
 
-// The number of a mantissa, with so many digits after the point and an exponent, which may be capped.
+// The number of a mantissa with `scale` digits after the point and an exponent, which may be capped.
 fn fixed_from(
     negative: bool,
     m: Mantissa,
@@ -67,14 +71,14 @@ fn fixed_from(
 ) -> Result<Fixed, FixedFault>
     requires zeros { m.zeros < 2 ^ 64 }
     requires scale { scale < 2 ^ 64 }
-    requires exponent { exponent ≤ 100000000000000000000 }
-    ensures { (n e : ℕ) → IsMantissa n m → exponent ≡ min e 100000000000000000000
+    requires exponent { exponent ≤ MOST_EXPONENT }
+    ensures { (n e : ℕ) → IsMantissa n m → exponent ≡ min e MOST_EXPONENT
         → result ≡ fixed_quotient negative (n * 10 ^ (18 + (if lowers then 0 else e))) (10 ^ (scale + (if lowers then e else 0))) }
 {
     if !m.large && m.value == 0 {
         return Ok(with_sign(false, 0));
     }
-    let raised = m.zeros + 18 + or_zero(!lowers, exponent);
+    let raised = m.zeros + PLACES + or_zero(!lowers, exponent);
     let lowered = scale + or_zero(lowers, exponent);
     if raised < lowered {
         return Err(FixedFault::Digits);

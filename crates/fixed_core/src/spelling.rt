@@ -9,8 +9,8 @@ use crate::fixed::Fixed;
 use itoa::Buffer;
 use std::alloc::AllocError;
 
-// The units of a whole number.
-const ONE: u128 = 1_000_000_000_000_000_000;
+// The units of the number 1.
+const UNITS_PER_ONE: u128 = 1_000_000_000_000_000_000;
 
 // Appends one byte.
 fn put_byte(byte: u8, out: &mut Vec<u8>) -> Result<(), AllocError>
@@ -20,6 +20,7 @@ fn put_byte(byte: u8, out: &mut Vec<u8>) -> Result<(), AllocError>
     Ok(())
 }
 
+// Appends the sign, if there is one.
 fn put_sign(negative: bool, out: &mut Vec<u8>) -> Result<(), AllocError>
     ensures { Puts out.old.items out.new.items result (sign_text negative) }
 {
@@ -30,6 +31,7 @@ fn put_sign(negative: bool, out: &mut Vec<u8>) -> Result<(), AllocError>
     }
 }
 
+// Appends the whole part.
 fn put_whole(whole: u128, out: &mut Vec<u8>) -> Result<(), AllocError>
     ensures { Puts out.old.items out.new.items result (decimal whole) }
 {
@@ -51,6 +53,7 @@ fn put_digits(places: u32, digits: u128, out: &mut Vec<u8>) -> Result<(), AllocE
     put_digits(places - 1, digits % power, out)
 }
 
+// Appends the point and the digits after it, if they are not all 0.
 fn put_point(rest: u128, out: &mut Vec<u8>) -> Result<(), AllocError>
     requires { rest < 10 ^ 18 }
     ensures { Puts out.old.items out.new.items result (point_digits rest) }
@@ -67,11 +70,13 @@ fn put_signed(negative: bool, units: u128, out: &mut Vec<u8>) -> Result<(), Allo
     ensures { Puts out.old.items out.new.items result (spelling_of negative units) }
 {
     put_sign(negative, out)?;
-    put_whole(units / ONE, out)?;
-    put_point(units % ONE, out)
+    put_whole(units / UNITS_PER_ONE, out)?;
+    put_point(units % UNITS_PER_ONE, out)
 }
 
-/// Appends the spelling of a number.
+/// Appends the one spelling of a number: `-` if it is negative, the whole part with no needless
+/// zeros, and, if the fraction is not 0, a point and its digits without zeros at the end. That text
+/// reads as the number. Want of memory leaves a prefix of it.
 pub fn put_fixed(value: Fixed, out: &mut Vec<u8>) -> Result<(), AllocError>
     ensures text { Puts out.old.items out.new.items result (spelling value) }
     ensures reads { fixed_of (spelling value) ≡ Ok value }

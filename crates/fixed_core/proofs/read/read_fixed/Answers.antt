@@ -18,6 +18,6 @@ returns c =
     let p = c.in-Some.parts in
     let number : numeral_of c.args.text.now ≡ Some (numeral_in p) = rw c.as_bytes.ensures.value at (sym c.in-Some.ensures.value) in
     let answer : c.fixed_from.result ≡ fixed_of c.args.text.now =
-        c.fixed_from.ensures _ (digits_value 10 p.exponent.now) c.mantissa_of.ensures.tracks c.capped_value.ensures
-        ∙ sym (fixed-numeral c.args.text.now (numeral_in p) number ∙ fixed-quotient (numeral_in p)) in
+    c.fixed_from.ensures _ (digits_value 10 p.exponent.now) c.mantissa_of.ensures.tracks c.capped_value.ensures
+    ∙ sym (fixed-numeral c.args.text.now (numeral_in p) number ∙ fixed-quotient (numeral_in p)) in
     record { answer = answer; meaning = answer_reads c.args.text.now c.fixed_from.result answer }
