@@ -1,3 +1,4 @@
+pub mod CanonicalFacts
 pub mod DigitFacts
 pub mod ExponentFacts
 pub mod MantissaFacts

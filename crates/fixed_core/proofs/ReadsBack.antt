@@ -57,7 +57,7 @@ after_shift n (c ∷ cs) =
     rw (one, two, power) (omega arith)
 
 -- one more digit in front
-one_more : (k s c : ℕ) (ds : List ℕ) → digit_value c ≡ s / 10 ^ k → length ds ≤ k → digits_value 10 ds * 10 ^ (k - length ds) ≡ s % 10 ^ k
+pub one_more : (k s c : ℕ) (ds : List ℕ) → digit_value c ≡ s / 10 ^ k → length ds ≤ k → digits_value 10 ds * 10 ^ (k - length ds) ≡ s % 10 ^ k
     → digits_value 10 (c ∷ ds) * 10 ^ (suc k - length (c ∷ ds)) ≡ s
 one_more k s c ds digit few value =
     let shift = after_shift (0 * 10 + digit_value c) ds in

@@ -1,3 +1,4 @@
+pub mod Canonical
 pub mod Mantissa
 pub mod Numeral
 pub mod Parts
