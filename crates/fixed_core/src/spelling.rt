@@ -3,6 +3,7 @@
 ghost use Rattle.std.specs.Prelude.{◌≡◌, ◌+◌, ◌-◌, ◌<◌, ◌≤◌, ◌^◌, [], ◌∷◌, Ok, decimal};
 ghost use Rattle.fixed_core.specs.Value.{fixed_of};
 ghost use Rattle.lists_core.specs.Puts.{Puts};
+ghost use Rattle.fixed_core.specs.Canonical.{IsCanonical};
 ghost use Rattle.fixed_core.specs.Spelling.{short_digits, point_digits, sign_text, spelling_of, spelling};
 
 use crate::fixed::Fixed;
@@ -80,6 +81,7 @@ fn put_signed(negative: bool, units: u128, out: &mut Vec<u8>) -> Result<(), Allo
 pub fn put_fixed(value: Fixed, out: &mut Vec<u8>) -> Result<(), AllocError>
     ensures text { Puts out.old.items out.new.items result (spelling value) }
     ensures reads { fixed_of (spelling value) ≡ Ok value }
+    ensures canonical { IsCanonical (spelling value) }
 {
     put_signed(value.is_negative(), value.magnitude(), out)
 }
