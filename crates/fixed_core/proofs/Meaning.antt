@@ -1,5 +1,5 @@
 -- What is computed of a text is what its numeral means.
-use Rattle.std.proofs.Common.{◌≡◌, ◌≢◌, ℕ, zero, suc, ◌*◌, ◌/◌, ◌%◌, ◌^◌, ◌<◌, ◌≤◌, ◌==◌, List, Bool, true, false, Option, Some, None, refl, sym, ap, ◌∙◌, inl, inr, nat_le, subst, arith}
+use Rattle.std.proofs.Common.{◌≡◌, ◌≢◌, ℕ, zero, suc, ◌*◌, ◌/◌, ◌%◌, ◌^◌, ◌==◌, List, Bool, true, false, Option, Some, None, refl, sym, ap, ◌∙◌, inl, inr, nat_le, subst, arith}
 use Rattle.std.specs.Prelude.{ℤ, unsigned_abs, Result}
 use Rattle.fixed_core.specs.declared.fault.FixedFault.{FixedFault}
 use Rattle.std.proofs.lemmas.Bool.{cases_Bool, eqb-true, eqb-false, leb-true, leb-false}

@@ -1,17 +1,14 @@
 -- The numeral of a text by its parts.
-use Rattle.std.proofs.Common.{◌≡◌, ◌≢◌, ℕ, suc, ◌+◌, ◌-◌, ◌*◌, ◌^◌, ◌<◌, ◌≤◌, ◌==◌, ◌&&◌, List, [], ◌∷◌, ◌++◌, length, take, Bool, true, false, not, cond, Option, Some, None, Err, one-add, refl, sym, ap, ◌∙◌, inl, inr, arith, rules, true≢false}
-use Rattle.std.specs.Prelude.{option_map, nat_lt, unwrap_or, position}
-use Rattle.std.specs.Char.{is_ascii_digit, digit_value}
+use Rattle.std.proofs.Common.{◌≡◌, ◌≢◌, ℕ, ◌+◌, ◌*◌, ◌^◌, List, [], ◌∷◌, length, take, true, false, not, Some, None, Err, one-add, refl, inl, inr, arith}
+use Rattle.std.specs.Prelude.{option_map, nat_lt}
+use Rattle.std.specs.Char.{is_ascii_digit}
 use Rattle.std.specs.List.{list_all, position_or_len}
-use Rattle.std.specs.Str.Parse.{AllDigits, digits_value}
+use Rattle.std.specs.Str.Parse.{AllDigits}
 use Rattle.std.proofs.lemmas.Bool.{cases_Bool, eq-eqb, ne_eqb, leb-false, false≢true}
 use Rattle.std.proofs.lemmas.List.Sums.{prefix_len-le-length}
-use Rattle.std.proofs.lemmas.Str.Parse.{digit_from_value, tells_digits, tells_all_ascii_digits}
-use Rattle.std.specs.Str.{all_ascii_digits}
 use Rattle.fixed_core.specs.Numeral.{Numeral, numeral_of, numeral_of_body, digits_len, front_digits, after_digits, is_minus, after_sign, fraction_digits, after_fraction, exponent_of}
 use Rattle.fixed_core.specs.Value.{fixed_of, fixed_of_numeral, fixed_quotient, mantissa_of, raised_by, lowered_by}
 use Rattle.fixed_core.specs.declared.fault.FixedFault.TheVariants.{Shape}
-use Rattle.fixed_core.specs.declared.mantissa.Mantissa.{Mantissa}
 use Rattle.fixed_core.specs.Mantissa.{IsMantissa}
 use Rattle.fixed_core.proofs.DigitFacts.{digit_test}
 

@@ -1,12 +1,12 @@
 -- The quotient of a mantissa by a power of ten.
-use Rattle.std.proofs.Common.{◌≡◌, ◌≢◌, ◌⊎◌, inl, inr, ℕ, suc, ◌+◌, ◌-◌, ◌*◌, ◌/◌, ◌%◌, ◌^◌, ◌<◌, ◌≤◌, Bool, true, false, refl, sym, ap, ◌∙◌, arith, ◌==◌, nat_le, Err, Ok, eqb, if◌then◌else◌}
+use Rattle.std.proofs.Common.{◌≡◌, ◌≢◌, ℕ, suc, ◌+◌, ◌*◌, ◌/◌, ◌%◌, ◌^◌, ◌<◌, ◌≤◌, Bool, true, false, refl, sym, ap, ◌∙◌, arith, Err, Ok}
 use Rattle.std.proofs.Math.Nat.{mul-div_cancel, mul-mod_left, mul_assoc, mul_comm, mul-le-mul_left, pow-succ', dvd-mul_right, mod-mod_of_dvd, zero-mod, zero-div}
 use Rattle.std.specs.Int.{◌∣◌}
 use Rattle.std.specs.Prelude.{Result, ℤ, pos}
-use Rattle.std.proofs.lemmas.Bool.{eq-eqb, ne_eqb, le-leb, lt-leb}
+use Rattle.std.proofs.lemmas.Bool.{ne_eqb, le-leb, lt-leb}
 use Rattle.fixed_core.specs.Value.{fixed_quotient, signed}
 use Rattle.fixed_core.specs.declared.fault.FixedFault.{FixedFault}
-use Rattle.fixed_core.specs.declared.fault.FixedFault.TheVariants.{Shape, Digits, Range}
+use Rattle.fixed_core.specs.declared.fault.FixedFault.TheVariants.{Digits, Range}
 use Rattle.std.proofs.Math.Arith.{mod-mul}
 use Rattle.std.proofs.lemmas.Nat.{pow-add}
 use Rattle.fixed_core.proofs.PowerFacts.{pow_least}

@@ -1,28 +1,25 @@
 -- The spelling of a number reads as that number.
-use Rattle.std.proofs.Common.{◌≡◌, ◌≢◌, ℕ, zero, suc, ◌+◌, ◌-◌, ◌*◌, ◌/◌, ◌%◌, ◌^◌, ◌<◌, ◌≤◌, ◌==◌, ◌&&◌, List, [], ◌∷◌, ◌++◌, length, take, drop, Bool, true, false, not, Option, Some, None, Ok, refl, sym, ap, ◌∙◌, inl, inr, one-add, arith}
-use Rattle.std.specs.Prelude.{decimal, Result, ℤ, pos, negsuc, unsigned_abs}
+use Rattle.std.proofs.Common.{◌≡◌, ◌≢◌, ℕ, zero, suc, ◌+◌, ◌-◌, ◌*◌, ◌/◌, ◌%◌, ◌^◌, ◌<◌, ◌≤◌, ◌==◌, List, [], ◌∷◌, ◌++◌, length, Bool, true, false, not, Some, Ok, refl, sym, ap, ◌∙◌, inl, inr, one-add, arith}
+use Rattle.std.specs.Prelude.{decimal, ℤ, pos, negsuc, unsigned_abs}
 use Rattle.std.specs.Char.{is_ascii_digit, digit_value}
 use Rattle.std.specs.List.{position_or_len}
-use Rattle.std.specs.Str.{all_ascii_digits}
 use Rattle.std.specs.Str.Parse.{AllDigits, digits_value, digits_value_after}
 use Rattle.std.proofs.lemmas.Bool.{cases_Bool, eqb-true, ne_eqb, eqb-false}
 use Rattle.std.proofs.lemmas.Str.{digit_value_digit}
-use Rattle.std.proofs.lemmas.Str.Parse.{digit_from_value, tells_all_ascii_digits}
+use Rattle.std.proofs.lemmas.Str.Parse.{digit_from_value}
 use Rattle.std.proofs.lemmas.Fmt.{decimal_is_IsNumeral_wide}
 use Rattle.std.proofs.lemmas.List.{append-nil}
 use Rattle.std.proofs.lemmas.Nat.{mod_below, div-add-mod', pow-add}
-use Rattle.std.proofs.Math.Bool.{and-true}
 use Rattle.std.proofs.Math.Nat.{pow-suc}
 use Rattle.std.proofs.Math.Seq.{take-append_seam, drop-append_seam}
-use Rattle.fixed_core.specs.Numeral.{front_digits, after_digits, is_minus, after_sign, fraction_digits, after_fraction, numeral_of, Numeral}
+use Rattle.fixed_core.specs.Numeral.{front_digits, after_digits, is_minus, after_sign, fraction_digits, after_fraction, numeral_of}
 use Rattle.fixed_core.specs.Value.{fixed_of, signed}
 use Rattle.fixed_core.specs.Spelling.{short_digits, point_digits, sign_text, spelling_of, spelling}
-use Rattle.fixed_core.specs.declared.fault.FixedFault.{FixedFault}
 use Rattle.fixed_core.proofs.PowerFacts.{pow_least}
 use Rattle.fixed_core.proofs.DigitFacts.{digits_after_append, digit_passes}
-use Rattle.fixed_core.proofs.NumeralFacts.{first_other, front_all, numeral-some, fixed-numeral, fixed-quotient}
+use Rattle.fixed_core.proofs.NumeralFacts.{first_other, numeral-some, fixed-numeral, fixed-quotient}
 use Rattle.fixed_core.proofs.QuotientFacts.{quotient-ok}
-use Rattle.fixed_core.proofs.SpellingFacts.{short-zero, short-more, first_place}
+use Rattle.fixed_core.proofs.SpellingFacts.{short-zero, first_place}
 
 -- the text does not go on with a digit
 abbrev pub StartsOther : List ℕ → Type 0

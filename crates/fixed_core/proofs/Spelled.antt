@@ -1,14 +1,14 @@
 -- A text spells the numeral that is computed from it, and no other.
-use Rattle.std.proofs.Common.{◌≡◌, ◌≢◌, ◌⊎◌, ◌↔◌, ℕ, zero, suc, ◌+◌, ◌<◌, ◌≤◌, ◌==◌, ◌&&◌, ◌||◌, List, [], ◌∷◌, ◌++◌, length, Bool, true, false, cond, Option, Some, None, refl, sym, ap, ◌∙◌, inl, inr, arith, subst}
+use Rattle.std.proofs.Common.{◌≡◌, ◌≢◌, ◌⊎◌, ◌↔◌, ℕ, ◌+◌, ◌<◌, ◌==◌, ◌&&◌, ◌||◌, List, [], ◌∷◌, ◌++◌, length, Bool, true, false, Option, Some, None, refl, sym, ap, ◌∙◌, inl, inr, arith, subst}
 use Rattle.std.specs.Prelude.{option_map, IfSome, nat_lt}
 use Rattle.std.specs.Char.{is_ascii_digit, digit_value}
 use Rattle.std.specs.List.{list_all}
 use Rattle.std.specs.Str.Parse.{AllDigits}
-use Rattle.std.proofs.lemmas.Bool.{cases_Bool, eqb-true, ne_eqb, eq-eqb, eqb-false, ltb-true, lt-ltb}
+use Rattle.std.proofs.lemmas.Bool.{cases_Bool, eqb-true, ne_eqb, eqb-false, ltb-true, lt-ltb}
 use Rattle.std.proofs.lemmas.List.{take-append-drop}
 use Rattle.std.proofs.lemmas.Str.Parse.{digit_from_value}
 use Rattle.fixed_core.specs.Numeral.{Numeral, numeral_of, numeral_of_body, digits_len, front_digits, after_digits, is_minus, after_sign, fraction_digits, after_fraction, exponent_of}
-use Rattle.fixed_core.specs.Spells.{IsSign, IsFraction, HasPower, IsExponent, Spells}
+use Rattle.fixed_core.specs.Spells.{IsSign, IsFraction, IsExponent, Spells}
 use Rattle.fixed_core.proofs.DigitFacts.{digit_passes}
 use Rattle.fixed_core.proofs.NumeralFacts.{front_all, all_digits_test, numeral-some}
 use Rattle.fixed_core.proofs.ReadsBack.{StartsOther, front-then}

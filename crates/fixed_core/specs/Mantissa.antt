@@ -1,5 +1,5 @@
 -- A number by its digits without the zeros at the end.
-use Rattle.std.specs.Prelude.{◌≡◌, ◌≢◌, ◌⊎◌, ℕ, ◌+◌, ◌*◌, ◌%◌, ◌^◌, ◌<◌, ◌≤◌, Bool, true, false, MatchBool}
+use Rattle.std.specs.Prelude.{◌≡◌, ◌≢◌, ◌⊎◌, ℕ, ◌*◌, ◌%◌, ◌^◌, ◌<◌, ◌≤◌, true, false}
 use Rattle.fixed_core.specs.declared.mantissa.Mantissa.{Mantissa}
 
 -- n is `head` with zeros at its end; `head` ends in no zero, and is known where it is below 10^37

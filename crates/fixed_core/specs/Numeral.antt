@@ -1,5 +1,5 @@
--- Number texts: what one says.
-use Rattle.std.specs.Prelude.{◌≡◌, ℕ, ◌+◌, List, [], ◌∷◌, take, drop, length, Bool, true, false, not, ◌==◌, ◌&&◌, ◌||◌, nat_lt, Option, Some, None, option_map, unwrap_or, position, if◌then◌else◌}
+-- What a number text says, computed.
+use Rattle.std.specs.Prelude.{ℕ, ◌+◌, List, [], ◌∷◌, take, drop, length, Bool, false, not, ◌==◌, ◌&&◌, ◌||◌, nat_lt, Option, Some, None, option_map, unwrap_or, position, if◌then◌else◌}
 use Rattle.std.specs.List.{list_all}
 use Rattle.std.specs.Char.{is_ascii_digit}
 
@@ -31,7 +31,8 @@ abbrev pub after_fraction : List ℕ → List ℕ
 after_fraction [] = []
 after_fraction (c ∷ rest) = if c == 46 then after_digits rest else c ∷ rest
 
--- the sign and the digits of an exponent, which is the whole text or lacks
+-- whether an exponent is negative, and its digits: the text is `e` or `E`, a sign and digits, or
+-- empty, which says 0
 abbrev pub exponent_of : List ℕ → Option (Bool × List ℕ)
 exponent_of [] = Some (false, [])
 exponent_of (c ∷ rest) =

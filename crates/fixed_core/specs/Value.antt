@@ -5,14 +5,14 @@ use Rattle.fixed_core.specs.declared.fault.FixedFault.{FixedFault}
 use Rattle.fixed_core.specs.declared.fault.FixedFault.TheVariants.{Shape, Digits, Range}
 use Rattle.fixed_core.specs.Numeral.{Numeral, numeral_of}
 
--- the powers of ten by which the digits are multiplied, for a number of units of 10^-18, and divided
+-- the units of 10^-18 are the mantissa times ten to `raised_by`, divided by ten to `lowered_by`
 abbrev pub raised_by : Numeral → ℕ
 raised_by n = 18 + (if n.lowers then 0 else digits_value 10 n.exponent)
 
 abbrev pub lowered_by : Numeral → ℕ
 lowered_by n = length n.fraction + (if n.lowers then digits_value 10 n.exponent else 0)
 
--- the digits of the mantissa, as one whole number
+-- the digits before and after the point, as one whole number
 abbrev pub mantissa_of : Numeral → ℕ
 mantissa_of n = digits_value 10 (n.whole ++ n.fraction)
 
@@ -30,10 +30,11 @@ fixed_quotient negative scaled divisor =
 unfoldable pub fixed_of_numeral : Numeral → Result ℤ FixedFault
 fixed_of_numeral n = fixed_quotient n.negative (mantissa_of n * 10 ^ raised_by n) (10 ^ lowered_by n)
 
+-- without a numeral the fault is Shape
 abbrev pub fixed_or_shape : Option Numeral → Result ℤ FixedFault
 fixed_or_shape None = Err Shape
 fixed_or_shape (Some n) = fixed_of_numeral n
 
--- the number of a text
+-- the number of a text in units of 10^-18, or the first fault that holds of it
 unfoldable pub fixed_of : List ℕ → Result ℤ FixedFault
 fixed_of text = fixed_or_shape (numeral_of text)

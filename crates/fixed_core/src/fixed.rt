@@ -50,15 +50,15 @@ impl Fixed {
         self.units
     }
 
-    /// Whether it is below 0.
-    pub fn is_negative(self) -> bool
+    // Whether it is below 0.
+    pub(crate) fn is_negative(self) -> bool
         ensures { result ≡ int_lt self (pos 0) }
     {
         self.units < 0
     }
 
-    /// The units without the sign.
-    pub fn magnitude(self) -> u128
+    // The units without the sign.
+    pub(crate) fn magnitude(self) -> u128
         ensures value { result ≡ unsigned_abs self }
         ensures bound { result ≤ 10 ^ 36 }
     {

@@ -7,7 +7,7 @@ ghost use Rattle.std.specs.Str.Parse.{AllDigits, digits_value, digits_value_afte
 ghost use Rattle.fixed_core.specs.Numeral.{digits_len, front_digits, after_digits, is_minus, after_sign, fraction_digits, after_fraction, exponent_of, numeral_of};
 ghost use Rattle.fixed_core.specs.Parts.{numeral_in};
 
-// A number text, cut into its parts.
+// The sign, the digits before and after the point, whether the exponent is negative, and its digits.
 #[derive(Drop)]
 pub struct Parts<'a> {
     pub negative: bool,
@@ -98,7 +98,7 @@ fn exponent_parts(text: &[u8]) -> Option<(bool, &[u8])>
     }
 }
 
-// The parts of a number text.
+// The parts of a number text; none where the text spells no numeral.
 pub fn parts_of(text: &[u8]) -> Option<Parts<'_>>
     ensures value { option_map numeral_in result ≡ numeral_of text.now }
     ensures whole { IfSome result (λ p. AllDigits 10 p.whole.now) }

@@ -1,4 +1,4 @@
-use Rattle.std.proofs.Common.{◌≡◌, ◌≤◌, ◌^◌, ◌+◌, ◌*◌, ◌∙◌, sym, arith, true≢false, false, true}
+use Rattle.std.proofs.Common.{◌+◌, arith, true≢false, false, true}
 use Rattle.std.proofs.lemmas.Bool.{false≢true}
 use Rattle.fixed_core.proofs.MantissaFacts.{mantissa-zero, mantissa-digit, mantissa-least, mantissa-tens}
 use Rattle.fixed_core.proofs.mantissa.push_digit.Goals as goal

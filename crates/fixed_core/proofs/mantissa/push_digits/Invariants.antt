@@ -1,4 +1,4 @@
-use Rattle.std.proofs.Common.{◌≡◌, ℕ, ◌+◌, ◌≤◌, take}
+use Rattle.std.proofs.Common.{ℕ, ◌+◌, ◌≤◌, take}
 use Rattle.std.specs.Str.Parse.{digits_value_after}
 use Rattle.fixed_core.specs.Mantissa.{IsMantissa}
 use Rattle.fixed_core.proofs.mantissa.push_digits.Given as goal

@@ -1,5 +1,4 @@
-use Rattle.std.proofs.Common.{arith}
-use Rattle.fixed_core.proofs.PowerFacts.{shifted_far, pow_fits}
+use Rattle.fixed_core.proofs.PowerFacts.{shifted_far}
 use Rattle.fixed_core.proofs.mantissa.shifted.Goals as goal
 
 pub returns-then-by : goal.returns-then-by

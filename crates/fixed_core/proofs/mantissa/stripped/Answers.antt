@@ -1,4 +1,4 @@
-use Rattle.std.proofs.Common.{◌≡◌, ◌*◌, ◌/◌, ◌^◌, ◌+◌, ap, ◌∙◌, sym, arith}
+use Rattle.std.proofs.Common.{◌≡◌, ◌*◌, ◌/◌, ◌^◌, ap, ◌∙◌, arith}
 use Rattle.fixed_core.proofs.PowerFacts.{pow_more}
 use Rattle.fixed_core.proofs.mantissa.stripped.Goals as goal
 

@@ -1,6 +1,5 @@
-use Rattle.std.proofs.Common.{◌≡◌, ◌≤◌, true, false, get_or, sym, ◌∙◌, arith, length, take}
-use Rattle.std.specs.Char.{digit_value, is_ascii_digit}
-use Rattle.std.specs.Str.Parse.{AllDigits}
+use Rattle.std.proofs.Common.{◌≡◌, true, get_or, sym, ◌∙◌, arith, length, take}
+use Rattle.std.specs.Char.{is_ascii_digit}
 use Rattle.std.proofs.lemmas.List.{take_all}
 use Rattle.fixed_core.specs.Numeral.{digits_len}
 use Rattle.fixed_core.proofs.DigitFacts.{other_at, other_none, low_more, digits_more, digit_code}

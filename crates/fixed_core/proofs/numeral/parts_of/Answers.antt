@@ -1,4 +1,4 @@
-use Rattle.std.proofs.Common.{◌≡◌, ◌≢◌, length, ◌+◌, sym, ◌∙◌, arith, refl}
+use Rattle.std.proofs.Common.{◌≢◌, length, ◌+◌, sym, arith}
 use Rattle.std.proofs.lemmas.Bool.{eqb-true, eqb-false}
 use Rattle.fixed_core.proofs.DigitFacts.{low_joined}
 use Rattle.fixed_core.proofs.NumeralFacts.{numeral-none, numeral-some}

@@ -1,4 +1,4 @@
-use Rattle.std.proofs.Common.{◌≡◌, arith}
+use Rattle.std.proofs.Common.{arith}
 use Rattle.fixed_core.proofs.PowerFacts.{powers_at_zero}
 use Rattle.fixed_core.proofs.powers.power_of_ten.Goals as goal
 

@@ -1,9 +1,8 @@
-use Rattle.std.proofs.Common.{◌≡◌, ◌≢◌, ◌≤◌, ◌<◌, ◌^◌, ◌+◌, ◌-◌, ◌*◌, ℕ, ◌∙◌, sym, ap, arith, true≢false, false, true, if◌then◌else◌}
+use Rattle.std.proofs.Common.{◌≡◌, ◌≢◌, ◌≤◌, ◌<◌, ◌^◌, ◌+◌, ◌*◌, ◌∙◌, sym, ap, arith, true≢false, false, if◌then◌else◌}
 use Rattle.std.proofs.lemmas.Nat.{mul-le}
-use Rattle.fixed_core.specs.Mantissa.{IsMantissa}
 use Rattle.fixed_core.proofs.PowerFacts.{pow_least}
 use Rattle.fixed_core.proofs.MantissaFacts.{mantissa-ends, not_true}
-use Rattle.fixed_core.proofs.ExponentFacts.{digits-gap, moves-right, near_enough, farther, Moves}
+use Rattle.fixed_core.proofs.ExponentFacts.{digits-gap, moves-right, near_enough, farther}
 use Rattle.fixed_core.proofs.QuotientFacts.{quotient-ok, quotient-range, quotient-digits, quotient-zero}
 use Rattle.fixed_core.proofs.read.fixed_from.Goals as goal
 use Rattle.fixed_core.proofs.read.fixed_from.Goals.{else-not-m-via-then-not-m+else-m-eq0, else-not-m-via-else-not-m, in_default-via-in-Some+else-units-le-MOST_UNITS, in_default-via-in_default}

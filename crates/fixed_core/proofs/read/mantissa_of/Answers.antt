@@ -1,6 +1,3 @@
-use Rattle.std.proofs.Common.{◌≡◌, ◌<◌, ◌^◌, ◌++◌, length, arith, ◌∙◌, sym}
-use Rattle.std.specs.Str.Parse.{digits_value}
-use Rattle.fixed_core.specs.Mantissa.{IsMantissa}
 use Rattle.fixed_core.proofs.DigitFacts.{digits_after_append, low_whole}
 use Rattle.fixed_core.proofs.NumeralFacts.{mantissa-start}
 use Rattle.fixed_core.proofs.read.mantissa_of.Goals as goal

@@ -1,5 +1,4 @@
 use Rattle.std.proofs.Common.{◌≡◌, sym, ◌∙◌, Some}
-use Rattle.std.specs.Prelude.{Result, ℤ}
 use Rattle.std.specs.Str.Parse.{digits_value}
 use Rattle.fixed_core.specs.Numeral.{numeral_of}
 use Rattle.fixed_core.specs.Parts.{numeral_in}

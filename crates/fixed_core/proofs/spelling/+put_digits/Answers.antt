@@ -1,7 +1,6 @@
-use Rattle.std.proofs.Common.{◌≡◌, ◌<◌, ◌/◌, sym, ◌∙◌, ap, arith, ◌++◌, ◌+◌, ◌-◌, ◌%◌, ◌^◌, ◌≤◌, ◌∷◌, []}
+use Rattle.std.proofs.Common.{sym, arith, ◌-◌, ◌^◌}
 use Rattle.std.proofs.lemmas.List.{append-nil}
 use Rattle.std.proofs.lemmas.Nat.{mod_below}
-use Rattle.fixed_core.specs.Spelling.{short_digits}
 use Rattle.fixed_core.proofs.PowerFacts.{pow_least}
 use Rattle.lists_core.proofs.PutsFacts.{puts-then, puts-cut, puts-failed}
 use Rattle.fixed_core.proofs.SpellingFacts.{short-zero, has_place, short-more, first_place}
