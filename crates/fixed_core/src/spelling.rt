@@ -41,7 +41,7 @@ fn put_whole(whole: u128, out: &mut Vec<u8>) -> Result<(), AllocError>
 }
 
 // Appends `places` digits without the zeros at their end.
-fn put_digits(places: u32, digits: u128, out: &mut Vec<u8>) -> Result<(), AllocError>
+fn put_digits(places: u32, digits: u64, out: &mut Vec<u8>) -> Result<(), AllocError>
     requires few { places ≤ 18 }
     requires fits { digits < 10 ^ places }
     ensures { Puts out.old.items out.new.items result (short_digits places digits) }
@@ -49,13 +49,13 @@ fn put_digits(places: u32, digits: u128, out: &mut Vec<u8>) -> Result<(), AllocE
     if digits == 0 {
         return Ok(());
     }
-    let power = 10u128.pow(places - 1);
+    let power = 10u64.pow(places - 1);
     put_byte(b'0' + (digits / power) as u8, out)?;
     put_digits(places - 1, digits % power, out)
 }
 
 // Appends the point and the digits after it, if they are not all 0.
-fn put_point(rest: u128, out: &mut Vec<u8>) -> Result<(), AllocError>
+fn put_point(rest: u64, out: &mut Vec<u8>) -> Result<(), AllocError>
     requires { rest < 10 ^ 18 }
     ensures { Puts out.old.items out.new.items result (point_digits rest) }
 {
@@ -72,7 +72,7 @@ fn put_signed(negative: bool, units: u128, out: &mut Vec<u8>) -> Result<(), Allo
 {
     put_sign(negative, out)?;
     put_whole(units / UNITS_PER_ONE, out)?;
-    put_point(units % UNITS_PER_ONE, out)
+    put_point((units % UNITS_PER_ONE) as u64, out)
 }
 
 /// Appends the one spelling of a number: `-` if it is negative, the whole part with no needless
