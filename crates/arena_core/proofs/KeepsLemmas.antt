@@ -1,10 +1,10 @@
 -- What links keep, as functions over arrays meet it.
-use Rattle.std.proofs.Common.{◌≡◌, ◌≢◌, ℕ, zero, suc, ◌+◌, ◌-◌, ◌<◌, ◌≤◌, List, [], ◌∷◌, length, map, get_or, set, Option, None, Some, refl, sym, ◌∙◌, ap, subst, arith, inl, inr, ◌⊎◌}
+use Rattle.std.proofs.Common.{◌≡◌, ◌≢◌, ℕ, ◌<◌, List, [], ◌∷◌, length, get_or, set, None, refl, sym, ◌∙◌, ap, subst, arith, inl, inr}
 use Rattle.std.specs.List.{slice_get}
 use Rattle.std.proofs.lemmas.List.{get_or_past, get_or_default, length-set, length-map, set_past}
-use Rattle.std.proofs.lemmas.Bool.{cases_eq, cases_lt}
+use Rattle.std.proofs.lemmas.Bool.{cases_lt}
 use Rattle.arena_core.specs.Links.{none, IsChain, Holds, Keeps, nexts, befores, owners, chains_of}
-use Rattle.arena_core.specs.Chains.{put_first, chain_at}
+use Rattle.arena_core.specs.Chains.{put_first}
 use Rattle.arena_core.specs.declared.links.Link.{Link}
 use Rattle.arena_core.proofs.Walks.{walks_are}
 use Rattle.arena_core.proofs.LinkLemmas.{link_holds}

@@ -1,14 +1,14 @@
 -- What callers of chains know of a seat.
-use Rattle.std.proofs.Common.{◌≡◌, ◌≢◌, ℕ, zero, suc, ◌+◌, ◌-◌, ◌*◌, ◌<◌, ◌≤◌, min, List, [], ◌∷◌, length, map, get_or, Option, None, Some, refl, sym, ◌∙◌, ap, subst, arith, inl, inr, ◌⊎◌}
-use Rattle.std.specs.List.{Contains, slice_get}
+use Rattle.std.proofs.Common.{◌≡◌, ◌≢◌, ℕ, zero, suc, ◌+◌, ◌<◌, ◌≤◌, List, [], ◌∷◌, length, get_or, None, Some, refl, sym, ◌∙◌, ap, subst, arith, inl, inr}
+use Rattle.std.specs.List.{slice_get}
 use Rattle.std.proofs.lemmas.List.{get_or_past, get_or_default, length-map, get_or-map}
 use Rattle.std.proofs.lemmas.Bool.{cases_lt}
-use Rattle.arena_core.specs.Links.{none, IsChain, Holds, Keeps, HasRoom, nexts, befores, owners, chains_of}
-use Rattle.arena_core.specs.Chains.{IsSeated, chain_at, AreApart}
+use Rattle.arena_core.specs.Links.{none, Keeps, HasRoom, nexts, befores, owners, chains_of}
+use Rattle.arena_core.specs.Chains.{IsSeated, AreApart}
 use Rattle.arena_core.specs.declared.links.Link.{Link}
 use Rattle.arena_core.proofs.UnlinkLemmas.{distinct_ne}
 use Rattle.std.proofs.lemmas.Bool.{cases_eq}
-use Rattle.arena_core.proofs.KeepsLemmas.{head_inside, no_first_at}
+use Rattle.arena_core.proofs.KeepsLemmas.{head_inside}
 
 pub keeps_same : (heads heads' : List ℕ) (links links' : List Link) → Keeps heads links → heads' ≡ heads → links' ≡ links → Keeps heads' links'
 keeps_same heads heads' links links' h eh el =

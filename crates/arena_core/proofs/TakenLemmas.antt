@@ -1,10 +1,10 @@
 -- What is left when a seat leaves its chain, as a caller sees it.
-use Rattle.std.proofs.Common.{◌≡◌, ◌≢◌, ℕ, zero, suc, ◌+◌, ◌-◌, ◌<◌, ◌≤◌, ◌==◌, not, Bool, true, false, cond, List, [], ◌∷◌, ◌++◌, length, map, get_or, set, take, drop, refl, sym, ◌∙◌, ap, subst, arith, inl, inr, ◌⊎◌, eq-eqb}
-use Rattle.std.specs.List.{Contains, remove, filter}
-use Rattle.std.proofs.lemmas.List.{get_or_past, get_or_default, length-set, length-map, get_or-map, get_or-set_same, get_or-set_other, set_past, ext_get_or}
+use Rattle.std.proofs.Common.{◌≡◌, ◌≢◌, ℕ, zero, suc, ◌+◌, ◌-◌, ◌<◌, ◌==◌, not, true, cond, List, [], ◌∷◌, length, get_or, set, refl, sym, ◌∙◌, ap, subst, arith, inl, inr, ◌⊎◌, eq-eqb}
+use Rattle.std.specs.List.{remove}
+use Rattle.std.proofs.lemmas.List.{get_or_past, get_or_default, length-set, length-map, get_or-map, get_or-set_same, get_or-set_other, ext_get_or}
 use Rattle.std.proofs.lemmas.Bool.{cases_eq, cases_lt}
 use Rattle.std.proofs.lemmas.Bool.Decides.{eqb_tells}
-use Rattle.arena_core.specs.Links.{none, IsChain, Holds, Keeps, nexts, befores, owners, chains_of}
+use Rattle.arena_core.specs.Links.{none, Holds, Keeps, nexts, befores, owners, chains_of}
 use Rattle.arena_core.specs.Chains.{others, taken_out}
 use Rattle.arena_core.specs.declared.links.Link.{Link}
 use Rattle.arena_core.proofs.UnlinkLemmas.{distinct_ne, unlink_holds, after_is, before_is, before_none, IsAt}

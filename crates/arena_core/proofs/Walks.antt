@@ -1,10 +1,10 @@
 -- A chain is what a walk along it gives.
-use Rattle.std.proofs.Common.{◌≡◌, ◌≢◌, ℕ, zero, suc, ◌+◌, ◌-◌, ◌<◌, ◌≤◌, Bool, true, false, cond, nat_lt, List, [], ◌∷◌, length, map, get_or, set, drop, refl, sym, ◌∙◌, ap, subst, arith, inl, inr, eqb, ◌||◌}
-use Rattle.std.specs.List.{All, list_any, IsDistinct, Contains}
-use Rattle.std.proofs.lemmas.List.{drop_more, drop_all, get_or_past, get_or_default, ext_get_or, get_or-map, length-map, length-set, get_or-set_same, get_or-set_other}
+use Rattle.std.proofs.Common.{◌≡◌, ◌≢◌, ℕ, zero, suc, ◌+◌, ◌-◌, ◌<◌, ◌≤◌, true, false, cond, nat_lt, List, [], ◌∷◌, length, get_or, drop, sym, ◌∙◌, ap, arith, inl, inr, eqb, ◌||◌}
+use Rattle.std.specs.List.{list_any, IsDistinct}
+use Rattle.std.proofs.lemmas.List.{drop_more, drop_all, get_or_past, get_or_default, ext_get_or, get_or-map, length-map}
 use Rattle.std.proofs.lemmas.List.Elements.{recursion_from_All}
 use Rattle.std.proofs.lemmas.Map.Steps.{length-le_from_distinct_below}
-use Rattle.std.proofs.lemmas.Bool.{cases_eq, cases_lt, false≢true, eqb-true}
+use Rattle.std.proofs.lemmas.Bool.{cases_lt, false≢true}
 use Rattle.std.proofs.lemmas.Bool.Decides.{eqb_tells, nat_tests}
 use Rattle.arena_core.specs.Links.{none, walk, walks, IsChain, Holds}
 

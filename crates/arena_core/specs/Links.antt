@@ -1,5 +1,5 @@
 -- How chains lie in arrays: the first seat of each literal, and for each seat the next one, the one before and the place of its literal.
-use Rattle.std.specs.Prelude.{ℕ, zero, suc, ◌≡◌, ◌≢◌, ◌+◌, ◌<◌, ◌≤◌, List, [], ◌∷◌, length, map, min, ◌*◌, All, Contains, slice_index_or, nat_lt, if◌then◌else◌, ◌⊎◌}
+use Rattle.std.specs.Prelude.{ℕ, zero, suc, ◌≡◌, ◌+◌, ◌<◌, List, [], ◌∷◌, length, map, min, ◌*◌, Contains, slice_index_or, nat_lt, if◌then◌else◌, ◌⊎◌}
 use Rattle.arena_core.specs.declared.links.Link.{Link}
 
 -- the number that stands for no seat and no place

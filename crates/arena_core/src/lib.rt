@@ -15,3 +15,5 @@ mod lit;
 mod seat;
 mod small_lit;
 mod steps;
+#[cfg(test)]
+mod tests;

@@ -1,8 +1,8 @@
-use Rattle.std.proofs.Common.{arith, refl, sym, ◌∙◌, length, get_or, set, ◌<◌, ◌≡◌}
+use Rattle.std.proofs.Common.{arith, refl, ◌∙◌, length, get_or, set, ◌<◌, ◌≡◌}
 use Rattle.std.proofs.lemmas.List.{length-map}
-use Rattle.arena_core.specs.Links.{none, nexts, befores, owners}
+use Rattle.arena_core.specs.Links.{none, nexts, befores}
 use Rattle.arena_core.specs.declared.links.Link.{Link}
-use Rattle.arena_core.proofs.KeepsLemmas.{linked, head_inside, set_none, befores_few}
+use Rattle.arena_core.proofs.KeepsLemmas.{linked, head_inside, befores_few}
 use Rattle.arena_core.proofs.links.link_in.Goals as goal
 
 pub set_before-requires-then-head : goal.set_before-requires-then-head

@@ -1,4 +1,4 @@
-use Rattle.std.proofs.Common.{◌∙◌, sym, ◌≡◌}
+use Rattle.std.proofs.Common.{◌∙◌, sym}
 use Rattle.arena_core.proofs.TakenLemmas.{before_seat, next_seat, unlinked}
 use Rattle.arena_core.proofs.links.unlink_from.Goals as goal
 

@@ -1,4 +1,4 @@
-use Rattle.std.proofs.Common.{sym, ◌∙◌, subst, ap, arith, get_or}
+use Rattle.std.proofs.Common.{◌∙◌, ap, arith, get_or}
 use Rattle.arena_core.proofs.SeatLemmas.{head_small, apart_seen}
 use Rattle.arena_core.proofs.KeepsLemmas.{no_first_at}
 use Rattle.arena_core.specs.Chains.{Chained}

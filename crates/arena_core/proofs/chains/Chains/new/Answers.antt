@@ -1,5 +1,4 @@
-use Rattle.std.proofs.Common.{rules, arith, ◌*◌, ◌<◌}
-use Rattle.arena_core.specs.Links.{none}
+use Rattle.std.proofs.Common.{arith, ◌*◌}
 use Rattle.arena_core.proofs.GrowLemmas.{new_room}
 use Rattle.arena_core.proofs.chains.Chains.new.Goals as goal
 

@@ -1,4 +1,4 @@
-use Rattle.std.proofs.Common.{sym, Some, ◌∙◌, subst, ap, ◌<◌, length, arith, rules}
+use Rattle.std.proofs.Common.{Some, ◌∙◌, ap, ◌<◌, length, arith, rules}
 use Rattle.arena_core.specs.Chains.{Chained}
 use Rattle.arena_core.proofs.SeatLemmas.{seated, after_read, spot, seat_small, apart_seen}
 use Rattle.arena_core.proofs.chains.Chains.next.Goals as goal

@@ -1,4 +1,4 @@
-use Rattle.std.proofs.Common.{rules, arith, refl, ap, ◌∙◌, sym}
+use Rattle.std.proofs.Common.{rules, refl, ap, ◌∙◌}
 use Rattle.arena_core.specs.Chains.{Chained}
 use Rattle.arena_core.proofs.GrowLemmas.{more_room}
 use Rattle.arena_core.proofs.chains.Chains.reserve.Goals as goal
