@@ -1,0 +1,5 @@
+pub mod Copied
+pub mod Sends
+pub mod Sent
+pub mod SoFar
+mod Walks
