@@ -3,7 +3,7 @@ ghost use Rattle.std.specs.Prelude.{◌≡◌, ◌+◌, ◌++◌, [], ◌∷◌,
 ghost use Rattle.std.specs.Result.{result_ok};
 ghost use Rattle.std.specs.Io.{ReadsAtMost};
 ghost use Rattle.std.specs.Io.KnownBytes.{ReadConsumes};
-ghost use Rattle.edge_core.specs.Outside.{KeepsHeld, Begins, HasCause};
+ghost use Rattle.edge_core.specs.Outside.{KeepsHeld, Begins, HasCause, one_more};
 
 use crate::held::{HeldFile, copy_next_at, place_of, put_first};
 use crate::names::{Event, NameNote};
@@ -98,7 +98,7 @@ impl Shelf for MemShelf {
         ensures fails { Contains (listed self.old) (next_call self.old) → IsErr result }
         ensures absent { mem_files self.old name.now ≡ None → IsErr result }
         ensures only { OnErr result (Contains (listed self.old) (next_call self.old) ⊎ (mem_files self.old name.now ≡ None)) }
-        ensures exact { OnOk result ((mem_shelf_state self.new).faults ≡ (mem_shelf_state self.old).faults) }
+        ensures faults { (mem_shelf_state self.new).faults ≡ (if is_ok result then (mem_shelf_state self.old).faults else one_more (mem_shelf_state self.old).faults) }
         ensures counts { call_count self.new ≡ next_call self.old }
         ensures listed { listed self.new ≡ listed self.old }
     {
@@ -131,7 +131,7 @@ impl Shelf for MemShelf {
 
         ensures fails { Contains (listed self.old) (next_call self.old) → IsErr result }
         ensures only { OnErr result (Contains (listed self.old) (next_call self.old)) }
-        ensures exact { OnOk result ((mem_shelf_state self.new).faults ≡ (mem_shelf_state self.old).faults) }
+        ensures faults { (mem_shelf_state self.new).faults ≡ (if is_ok result then (mem_shelf_state self.old).faults else one_more (mem_shelf_state self.old).faults) }
         ensures counts { call_count self.new ≡ next_call self.old }
         ensures listed { listed self.new ≡ listed self.old }
     {

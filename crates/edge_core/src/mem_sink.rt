@@ -1,7 +1,7 @@
 //! A sink in memory, whose writes fail where they are told to.
-ghost use Rattle.std.specs.Prelude.{◌≡◌, ◌<◌, ◌++◌, [], ◌∷◌, length, OnOk, OnErr, IfOk, IsErr, Contains, ◌⊎◌};
+ghost use Rattle.std.specs.Prelude.{◌≡◌, ◌<◌, ◌++◌, [], ◌∷◌, length, OnOk, OnErr, IfOk, IsErr, is_ok, Contains, ◌⊎◌, if◌then◌else◌};
 ghost use Rattle.std.specs.Io.KnownBytes.{WriteAppends};
-ghost use Rattle.edge_core.specs.Outside.{HasCause};
+ghost use Rattle.edge_core.specs.Outside.{HasCause, one_more};
 
 use crate::{Failed, Sink};
 use std::alloc::{AllocError, Global};
@@ -67,7 +67,7 @@ impl Sink for MemSink {
 
         ensures fails { Contains (listed_writes self.old) (next_write self.old) → IsErr result }
         ensures only { OnErr result (Contains (listed_writes self.old) (next_write self.old) ⊎ (spare_room self.old < length piece.now)) }
-        ensures exact { OnOk result ((mem_sink_state self.new).faults ≡ (mem_sink_state self.old).faults) }
+        ensures faults { (mem_sink_state self.new).faults ≡ (if is_ok result then (mem_sink_state self.old).faults else one_more (mem_sink_state self.old).faults) }
         ensures counts { write_count self.new ≡ next_write self.old }
         ensures listed { listed_writes self.new ≡ listed_writes self.old }
     {

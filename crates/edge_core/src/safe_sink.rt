@@ -9,7 +9,9 @@ use crate::{Failed, Sink};
 pub struct SafeSink {}
 
 impl SafeSink {
-    pub fn new() -> SafeSink {
+    pub fn new() -> SafeSink
+        ensures { (⟦<SafeSink as Sink>⟧.state result).faults ≡ 0 }
+    {
         SafeSink {}
     }
 }
