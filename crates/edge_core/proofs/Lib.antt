@@ -3,3 +3,4 @@ pub mod Sends
 pub mod Sent
 pub mod SoFar
 mod Walks
+pub mod Worked

@@ -34,9 +34,13 @@ pub record SinkState : Type 0 where
   -- the count of faults
   pub faults : ℕ
 
+-- the last value of a count
+abbrev pub last_count : ℕ
+last_count = 2 ^ 64 - 1
+
 -- one more, but a count stands still at its last value
 abbrev pub one_more : ℕ → ℕ
-one_more count = min (count + 1) (2 ^ 64 - 1)
+one_more count = min (count + 1) last_count
 
 -- the count rose, or stands at its last value
 abbrev pub Rose : ℕ → ℕ → Type 0

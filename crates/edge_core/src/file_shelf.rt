@@ -12,6 +12,9 @@ use std::rt::Files;
 const PIECE: usize = 65_536;
 
 /// The files that std opens by their paths. It tells nothing of what they hold.
+///
+/// This is trusted, and looked at by a test alone: that the file of the name is the one that is opened, and
+/// that its bytes are those that are handed out. What its state says of names is what its own calls note.
 #[derive(Drop)]
 pub struct FileShelf<'a, R: Files> {
     rt: &'a R,

@@ -6,6 +6,7 @@ ghost use Rattle.edge_core.specs.Load.{LoadsAs};
 
 use crate::{Failed, Shelf};
 use std::alloc::Global;
+use thiserror::Error;
 
 /// The most bytes that a file may have: 64 MiB.
 pub const MOST_BYTES: usize = 67_108_864;
@@ -15,19 +16,23 @@ pub const MOST_BYTES: usize = 67_108_864;
 const PIECE: usize = 65_536;
 
 /// Why a file was not loaded.
-#[derive(Clone, Copy, Debug, PartialEq, Eq)]
+#[derive(Clone, Copy, Debug, PartialEq, Eq, Error)]
 pub enum LoadFault {
     /// The shelf failed to open the file or to read it.
+    #[error("cannot be read")]
     Read,
     /// The file has more than `MOST_BYTES` bytes.
+    #[error("more than 67108864 bytes")]
     TooLong,
     /// There was no memory for its bytes.
+    #[error("out of memory")]
     NoMemory,
 }
 
 /// The bytes of a file, read to the first read that gives none.
 ///
-/// Each turn takes at least one byte or is the last. Of the memory that was taken at most half stays unused.
+/// Each turn takes at least one byte or is the last. The vector grows by doubling, so at most half of
+/// its memory stays unused.
 #[tactic(auto, using(crate::proofs::SoFar::so_far_none, crate::proofs::SoFar::so_far_more, crate::proofs::SoFar::so_far_all, crate::proofs::SoFar::so_far_no_longer))]
 pub fn load<S: Shelf>(alloc: Global, shelf: &mut S, name: &str) -> Result<Vec<u8>, LoadFault>
     requires { IsTrue ((S.state shelf.old).may_open name.now) }
@@ -43,7 +48,7 @@ pub fn load<S: Shelf>(alloc: Global, shelf: &mut S, name: &str) -> Result<Vec<u8
     ensures taken { IfOk result (λ bytes. (S.state shelf.new).taken ≡ vec_len bytes) }
     ensures opened { OnOk result ((S.state shelf.new).opened ≡ Some name.now) }
     ensures too_long { IsErrOf result LoadFault.TooLong → MOST_BYTES < (S.state shelf.new).taken }
-    ensures too_long_file { IsErrOf result LoadFault.TooLong → (S.state shelf.new).opened ≡ Some name.now }
+    ensures too_long_name { IsErrOf result LoadFault.TooLong → (S.state shelf.new).opened ≡ Some name.now }
     ensures read { IsErrOf result LoadFault.Read → Rose (S.state shelf.old).faults (S.state shelf.new).faults }
     ensures missed { IsErrOf result LoadFault.Read → (S.state shelf.new).missed ≡ Some name.now }
 {
