@@ -12,14 +12,16 @@ use std::alloc::{AllocError, Global};
 
 /// Files in memory. It tells what they hold.
 ///
-/// Calls of `open` and `read` are counted together from 1, and the count stands still at its last value.
+/// One count, from 1, runs over the calls of `open` and `read`. At its last value it stands still.
 #[derive(Drop)]
 pub struct MemShelf {
     alloc: Global,
     files: Vec<HeldFile>,
+    // The numbers of the calls that are to fail.
     failing: Vec<u64>,
     calls: u64,
     faults: u64,
+    // Of the open file: its place, and how much of it was handed out.
     place: Option<usize>,
     taken: usize,
     note: NameNote,
@@ -51,7 +53,7 @@ impl MemShelf {
         }
     }
 
-    /// Holds these bytes under this name, in place of those that it held. No file is open afterwards.
+    /// Holds these bytes under this name, in place of earlier ones, and closes the open file.
     pub fn add(&mut self, name: &str, bytes: &[u8]) -> Result<(), AllocError>
         ensures held { OnOk result (Holds (mem_files self.old) (mem_files self.new) name.now bytes.now) }
         ensures closed { OnOk result ((mem_shelf_state self.new).opened ≡ None) }

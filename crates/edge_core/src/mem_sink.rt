@@ -8,10 +8,11 @@ use std::alloc::{AllocError, Global};
 
 /// Bytes in memory. It tells them.
 ///
-/// Writes are counted from 1, and the count stands still at its last value.
+/// Its writes have the numbers 1, 2 and so on. At the last value the count stands still.
 #[derive(Drop)]
 pub struct MemSink {
     bytes: Vec<u8>,
+    // The numbers of the writes that are to fail.
     failing: Vec<u64>,
     writes: u64,
     faults: u64,

@@ -13,6 +13,7 @@ use std::alloc::{AllocError, Global};
 pub struct SafeShelf {
     alloc: Global,
     files: Vec<HeldFile>,
+    // Of the open file: its place, if it is held, and how much of it was handed out.
     place: Option<usize>,
     taken: usize,
     note: NameNote,
@@ -38,7 +39,7 @@ impl SafeShelf {
         }
     }
 
-    /// Holds these bytes under this name, in place of those that it held. No file is open afterwards.
+    /// Holds these bytes under this name, in place of earlier ones, and closes the open file.
     pub fn add(&mut self, name: &str, bytes: &[u8]) -> Result<(), AllocError>
         ensures held { OnOk result (Holds (safe_files self.old) (safe_files self.new) name.now bytes.now) }
         ensures closed { OnOk result ((safe_shelf_state self.new).opened ≡ None) }

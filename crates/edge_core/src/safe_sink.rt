@@ -4,7 +4,7 @@ ghost use Rattle.edge_core.specs.Outside.{SinkState};
 
 use crate::{Failed, Sink};
 
-/// Takes every piece whole, keeps nothing and tells nothing. Its count of faults is 0.
+/// For output that nobody wants: each piece goes whole, and nothing is kept or told. No write fails.
 #[derive(Drop)]
 pub struct SafeSink {}
 

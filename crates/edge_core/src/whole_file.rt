@@ -31,8 +31,8 @@ pub enum LoadFault {
 
 /// The bytes of a file, read to the first read that gives none.
 ///
-/// Each turn takes at least one byte or is the last. The vector grows by doubling, so at most half of
-/// its memory stays unused.
+/// It ends, since a read that gives no byte is the last and no more than `MOST_BYTES` are kept. The vector
+/// grows by doubling, so at most half of its memory stays unused.
 #[tactic(auto, using(crate::proofs::SoFar::so_far_none, crate::proofs::SoFar::so_far_more, crate::proofs::SoFar::so_far_all, crate::proofs::SoFar::so_far_no_longer))]
 pub fn load<S: Shelf>(alloc: Global, shelf: &mut S, name: &str) -> Result<Vec<u8>, LoadFault>
     requires { IsTrue ((S.state shelf.old).may_open name.now) }
