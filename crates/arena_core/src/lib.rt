@@ -1,0 +1,19 @@
+//! Clauses in one flat arena, and chains of the seats that watch their literals.
+#![tactic(auto)]
+
+pub use arena::{Arena, ClauseId};
+pub use chains::Chains;
+pub use lit::Lit;
+pub use seat::Seat;
+pub use small_lit::SmallLit;
+pub use steps::Steps;
+
+mod arena;
+mod chains;
+mod links;
+mod lit;
+mod seat;
+mod small_lit;
+mod steps;
+#[cfg(test)]
+mod tests;

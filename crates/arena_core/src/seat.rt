@@ -1,0 +1,69 @@
+//! Seats: the places from which a clause watches two of its literals.
+ghost use Rattle.std.specs.Prelude.{◌≡◌, ◌+◌, ◌*◌, ◌/◌, ◌%◌, ◌<◌, ◌≤◌};
+
+use crate::arena::ClauseId;
+use std::marker::Model;
+
+/// A clause and a side, 0 or 1; contracts see it as twice the number of the clause, plus the side.
+#[derive(Clone, Copy, Debug, PartialEq, Eq)]
+pub struct Seat {
+    number: u32,
+}
+
+impl Model for Seat {
+    ghost use Rattle.std.specs.Prelude.{ℕ, ◌<◌};
+
+    ghost Value = { ℕ };
+
+    ghost view = { λ s. s.number };
+
+    ghost invariant = { λ s. s.number < 4200000000 };
+
+    ghost inverse = { λ n. record { number = n } };
+}
+
+impl Seat {
+    /// The seat of a clause on a side.
+    #[inline]
+    pub fn of(clause: ClauseId, side: u8) -> Seat
+        requires { side ≤ 1 }
+        ensures { result ≡ 2 * clause + side }
+    {
+        Seat {
+            number: 2 * clause.number() + side as u32,
+        }
+    }
+
+    /// The seat at a place in a table of seats.
+    #[inline]
+    pub(crate) fn at(number: u32) -> Seat
+        requires { number < 4200000000 }
+        ensures { result ≡ number }
+    {
+        Seat { number }
+    }
+
+    /// The seat's place in a table of seats.
+    #[inline]
+    pub(crate) fn slot(self) -> u32
+        ensures { result ≡ self }
+    {
+        self.number
+    }
+
+    /// The clause.
+    #[inline]
+    pub fn clause(self) -> ClauseId
+        ensures { result ≡ self / 2 }
+    {
+        ClauseId::numbered(self.number / 2)
+    }
+
+    /// The side, 0 or 1.
+    #[inline]
+    pub fn side(self) -> u8
+        ensures { result ≡ self % 2 }
+    {
+        (self.number % 2) as u8
+    }
+}

@@ -1,0 +1,7 @@
+pub mod StandingFacts
+pub mod KnownFacts
+pub mod FollowFacts
+pub mod FaultFacts
+pub mod ChainFacts
+pub mod GoodFacts
+pub mod TruthFacts

@@ -1,0 +1,28 @@
+use Rattle.std.proofs.Common.{sym, subst, ◌∙◌, ℕ, Option}
+use Rattle.std.specs.List.{Contains}
+use Rattle.std.specs.Option.{IfSome}
+use Rattle.chain_core.proofs.StandingFacts.{turn_skip, turn_first, turn_same, turn_other, rest_end}
+use Rattle.chain_core.proofs.chain.standing_of.Goals as goal
+use Rattle.chain_core.proofs.chain.standing_of.Goals.{then-stamps-place+in-None, then-stamps-place+in-Some+else-ne, else-stamps-place}
+
+pub returns-then-ne-clause-answer : goal.returns-then-ne-clause-answer
+returns-then-ne-clause-answer c = λ next. turn_other c.args.stamps.now c.args.stamp c.loop-literal.found c.args.clause.now _ _ c.place.result c.in-Some.other next _ c.loop-literal-test.true c.literal-item.is c.place.ensures c.if-stamps-place.true c.in-Some.is c.if-ne.ensures (c.loop-literal.invariant.answer next)
+
+pub loop-literal-preserved : goal.loop-literal-preserved
+loop-literal-preserved c = record {
+  answer = λ next. elim c.if-stamps-place.branch [
+    | then-stamps-place+in-None w ↦ turn_first c.args.stamps.now c.args.stamp c.loop-literal.found c.if-stamps-place.found c.args.clause.now _ _ c.place.result next _ c.loop-literal-test.true c.literal-item.is c.place.ensures w.if-stamps-place.true w.in-None.is w.found-is (c.loop-literal.invariant.answer next)
+    | then-stamps-place+in-Some+else-ne w ↦ turn_same c.args.stamps.now c.args.stamp c.loop-literal.found c.if-stamps-place.found c.args.clause.now _ _ c.place.result w.in-Some.other next _ c.loop-literal-test.true c.literal-item.is c.place.ensures w.if-stamps-place.true w.in-Some.is w.found-is w.if-ne.ensures (c.loop-literal.invariant.answer next)
+    | else-stamps-place w ↦ turn_skip c.args.stamps.now c.args.stamp c.loop-literal.found c.if-stamps-place.found c.args.clause.now _ _ c.place.result next _ c.loop-literal-test.true c.literal-item.is c.place.ensures w.if-stamps-place.false w.found-is (c.loop-literal.invariant.answer next)
+  ];
+  among =
+      let P = λ (f : Option ℕ). IfSome f (Contains c.args.clause.now) in
+      elim c.if-stamps-place.branch [
+        | then-stamps-place+in-None w ↦ subst P (sym w.found-is) (c.loop-literal.literal-index, c.loop-literal-test.true, sym c.literal-item.is)
+        | then-stamps-place+in-Some+else-ne w ↦ subst P (w.in-Some.is ∙ sym w.found-is) c.loop-literal.invariant.among
+        | else-stamps-place w ↦ subst P (sym w.found-is) c.loop-literal.invariant.among
+      ];
+}
+
+pub returns-in-Some-found-clause-answer : goal.returns-in-Some-found-clause-answer
+returns-in-Some-found-clause-answer c = λ next. rest_end c.args.stamps.now c.args.stamp c.loop-literal.found c.args.clause.now _ c.in-Some-found.literal next _ c.loop-literal-test.false c.in-Some-found.is (c.loop-literal.invariant.answer next)

@@ -1,0 +1,27 @@
+//! Why a log is no refutation.
+
+use thiserror::Error;
+
+/// Why a log is no refutation of a formula. The line is that of the first lemma that fails, where
+/// the first lemma stands on line 2.
+#[derive(Clone, Copy, Debug, PartialEq, Eq, Error)]
+pub enum CheckFault {
+    /// The lemma's id is not the number of clauses before it plus 1.
+    #[error("line {0}: not the next id")]
+    Id(u32),
+    /// A literal is of a variable that the formula does not have.
+    #[error("line {0}: a literal of no variable")]
+    Literal(u32),
+    /// A hint is 0, or names no clause before the lemma.
+    #[error("line {0}: a hint at no earlier clause")]
+    Hint(u32),
+    /// The chain of hints does not end in a clause that is all false.
+    #[error("line {0}: the hints lead to no conflict")]
+    Chain(u32),
+    /// Each lemma is good, and the last is not empty or there is none.
+    #[error("no empty lemma at the end")]
+    NotEmpty,
+    /// The allocator gave no memory.
+    #[error("out of memory")]
+    NoMemory,
+}

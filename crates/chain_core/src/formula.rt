@@ -1,0 +1,87 @@
+//! Formulas.
+ghost use Rattle.std.specs.Prelude.{◌≡◌, ◌∷◌, ◌++◌, [], length, OnOk, OnErr, ◌<◌, ◌≤◌, ◌+◌, All, Some};
+ghost use Rattle.chain_core.specs.Literal.{variable_of};
+ghost use Rattle.chain_core.specs.Chain.{clause_at};
+ghost use Rattle.chain_core.specs.Cnf.{InRange};
+
+use crate::literal::Literal;
+use rows_core::Rows;
+use std::alloc::{AllocError, Global};
+use std::marker::Model;
+
+/// The greatest variable, so that twice a variable and one more fits 32 bits.
+pub const MOST_VARIABLES: u32 = 2_147_483_647;
+
+/// The most clauses of a formula, so that ids of lemmas that follow them fit 32 bits.
+pub const MOST_CLAUSES: u32 = 2_000_000_000;
+
+/// A number of variables and a list of clauses.
+#[derive(Drop)]
+pub struct Formula {
+    variables: u32,
+    clauses: Rows<Literal>,
+}
+
+impl Model for Formula {
+    ghost use Rattle.std.specs.Prelude.{length, ◌≤◌};
+    ghost use Rattle.chain_core.specs.Cnf.{Cnf, InRange};
+    ghost use Rattle.chain_core.specs.declared.formula.TheConstants.{MOST_VARIABLES, MOST_CLAUSES};
+
+    ghost Value = { Cnf };
+
+    ghost view = { λ a. record { variables = a.variables; clauses = a.clauses } };
+
+    ghost invariant = { λ a. (a.variables ≤ MOST_VARIABLES) × (length a.clauses ≤ MOST_CLAUSES) × InRange a.variables a.clauses };
+}
+
+impl Formula {
+    /// The formula of so many variables and no clause. Takes no memory.
+    pub fn new(alloc: Global, variables: u32) -> Formula
+        requires { variables ≤ MOST_VARIABLES }
+        ensures variables { result.variables ≡ variables }
+        ensures clauses { result.clauses ≡ [] }
+    {
+        Formula {
+            variables,
+            clauses: Rows::new(alloc),
+        }
+    }
+
+    /// Puts a clause last. Want of memory leaves the formula as it was.
+    pub fn add(&mut self, literals: &[Literal]) -> Result<(), AllocError>
+        requires range { All (λ l. variable_of l ≤ self.old.variables) literals.now }
+        requires room { length self.old.clauses < MOST_CLAUSES }
+        ensures variables { self.new.variables ≡ self.old.variables }
+        ensures ok { OnOk result (self.new.clauses ≡ self.old.clauses ++ literals.now ∷ []) }
+        ensures err { OnErr result (self.new.clauses ≡ self.old.clauses) }
+    {
+        self.clauses.push(literals)
+    }
+
+    /// The number of variables.
+    pub fn variables(&self) -> u32
+        ensures value { result ≡ self.now.variables }
+        ensures bound { result ≤ MOST_VARIABLES }
+        ensures range { InRange self.now.variables self.now.clauses }
+    {
+        self.variables
+    }
+
+    /// The number of clauses.
+    pub fn count(&self) -> u32
+        ensures value { result ≡ length self.now.clauses }
+        ensures bound { result ≤ MOST_CLAUSES }
+        ensures range { InRange self.now.variables self.now.clauses }
+    {
+        self.clauses.count() as u32
+    }
+
+    /// The clause of this id, from 1.
+    pub fn clause(&self, id: u32) -> &[Literal]
+        requires from { 1 ≤ id }
+        requires to { id ≤ length self.now.clauses }
+        ensures { clause_at self.now.clauses id ≡ Some result.now }
+    {
+        self.clauses.row((id - 1) as usize)
+    }
+}

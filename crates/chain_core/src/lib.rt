@@ -1,0 +1,17 @@
+//! Formulas in conjunctive normal form, logs of lemmas, and the checker that says which logs refute a formula.
+#![tactic(auto)]
+
+mod chain;
+mod checker;
+mod encoding;
+mod fault;
+mod formula;
+mod literal;
+mod log;
+
+pub use checker::{Accepted, check};
+pub use encoding::Encoding;
+pub use fault::CheckFault;
+pub use formula::{Formula, MOST_CLAUSES, MOST_VARIABLES};
+pub use literal::Literal;
+pub use log::{Hints, Lemma, Literals, Log};

@@ -1,0 +1,83 @@
+//! A variable with a sign.
+ghost use Rattle.std.specs.Prelude.{IfSome, IsNone, pos, negsuc, ◌⊎◌, ◌↔◌, ◌≡◌, ◌+◌, ◌*◌, ◌<◌, ◌≤◌, ◌^◌};
+ghost use Rattle.chain_core.specs.Literal.{negation, variable_of, number_of};
+
+use std::marker::Model;
+
+/// A variable from 1 to 2147483647 and a sign.
+///
+/// Contracts see its place: twice its variable, and one more where its sign is minus.
+#[derive(Clone, Copy, PartialEq, Eq)]
+pub struct Literal {
+    place: u32,
+}
+
+impl Model for Literal {
+    ghost use Rattle.std.specs.Prelude.{ℕ, ◌≤◌};
+
+    ghost Value = { ℕ };
+
+    ghost view = { λ l. l.place };
+
+    ghost invariant = { λ l. 2 ≤ l.place };
+
+    ghost inverse = { λ n. record { place = n } };
+}
+
+impl Literal {
+    /// The literal that a number writes: the variable, negative where the sign is minus. None
+    /// exactly for 0 and the least number.
+    pub fn of(number: i32) -> Option<Literal>
+        ensures value { IfSome result (λ l. number_of l ≡ number) }
+        ensures none { IsNone result ↔ ((number ≡ pos 0) ⊎ (number ≡ negsuc 2147483647)) }
+    {
+        if number > 0 {
+            Some(Literal {
+                place: 2 * number as u32,
+            })
+        } else if number < 0 && number != i32::MIN {
+            Some(Literal {
+                place: 2 * (-number) as u32 + 1,
+            })
+        } else {
+            None
+        }
+    }
+
+    /// The number that writes this literal.
+    pub fn number(self) -> i32
+        ensures { result ≡ number_of self }
+    {
+        let variable = (self.place / 2) as i32;
+        if self.place % 2 == 0 {
+            variable
+        } else {
+            -variable
+        }
+    }
+
+    /// The place of the literal in a table with two places for each variable from 0 on.
+    pub fn place(self) -> usize
+        ensures { result ≡ self }
+    {
+        self.place as usize
+    }
+
+    /// The variable.
+    pub fn variable(self) -> u32
+        ensures value { result ≡ variable_of self }
+        ensures least { 1 ≤ result }
+        ensures most { result ≤ 2147483647 }
+    {
+        self.place / 2
+    }
+
+    /// The literal of the same variable with the other sign.
+    pub fn negated(self) -> Literal
+        ensures { result ≡ negation self }
+    {
+        Literal {
+            place: self.place ^ 1,
+        }
+    }
+}

@@ -1,0 +1,74 @@
+//! Reads a whole file.
+ghost use Rattle.std.specs.Prelude.{◌≡◌, ◌++◌, [], ◌∷◌, ◌<◌, ◌≤◌, Some, IsTrue, IfOk, OnOk, IsErrOf, vec_len};
+ghost use Rattle.std.specs.Option.{ForSome};
+ghost use Rattle.edge_core.specs.Outside.{KeepsHeld, Rose, bytes_of};
+ghost use Rattle.edge_core.specs.Load.{LoadsAs};
+
+use crate::{Failed, Shelf};
+use std::alloc::Global;
+use thiserror::Error;
+
+/// The most bytes that a file may have: 64 MiB.
+pub const MOST_BYTES: usize = 67_108_864;
+
+/// How many bytes one read asks for. A power of two, so that the vector grows from one power of two
+/// to the next, and a file of `MOST_BYTES` ends with no spare room.
+const PIECE: usize = 65_536;
+
+/// Why a file was not loaded.
+#[derive(Clone, Copy, Debug, PartialEq, Eq, Error)]
+pub enum LoadFault {
+    /// The shelf failed to open the file or to read it.
+    #[error("cannot be read")]
+    Read,
+    /// The file has more than `MOST_BYTES` bytes.
+    #[error("more than 67108864 bytes")]
+    TooLong,
+    /// There was no memory for its bytes.
+    #[error("out of memory")]
+    NoMemory,
+}
+
+/// The bytes of a file, read to the first read that gives none.
+///
+/// It ends, since a read that gives no byte is the last and no more than `MOST_BYTES` are kept. The vector
+/// grows by doubling, so at most half of its memory stays unused.
+#[tactic(auto, using(crate::proofs::SoFar::so_far_none, crate::proofs::SoFar::so_far_more, crate::proofs::SoFar::so_far_all, crate::proofs::SoFar::so_far_no_longer))]
+pub fn load<S: Shelf>(alloc: Global, shelf: &mut S, name: &str) -> Result<Vec<u8>, LoadFault>
+    requires { IsTrue ((S.state shelf.old).may_open name.now) }
+    ensures held { KeepsHeld (S.state shelf.old) (S.state shelf.new) }
+    ensures asked { (S.state shelf.new).asked ≡ (S.state shelf.old).asked ++ name.now ∷ [] }
+    ensures later { (S.state shelf.old).faults ≤ (S.state shelf.new).faults }
+
+    // Where the shelf tells what it holds.
+    ensures content { ForSome (S.state shelf.old).held (λ files. LoadsAs (bytes_of files name.now) result) }
+
+    // Over every shelf.
+    ensures short { IfOk result (λ bytes. vec_len bytes ≤ MOST_BYTES) }
+    ensures taken { IfOk result (λ bytes. (S.state shelf.new).taken ≡ vec_len bytes) }
+    ensures opened { OnOk result ((S.state shelf.new).opened ≡ Some name.now) }
+    ensures too_long { IsErrOf result LoadFault.TooLong → MOST_BYTES < (S.state shelf.new).taken }
+    ensures too_long_name { IsErrOf result LoadFault.TooLong → (S.state shelf.new).opened ≡ Some name.now }
+    ensures read { IsErrOf result LoadFault.Read → Rose (S.state shelf.old).faults (S.state shelf.new).faults }
+    ensures missed { IsErrOf result LoadFault.Read → (S.state shelf.new).missed ≡ Some name.now }
+{
+    if shelf.open(name).is_err() {
+        return Err(LoadFault::Read);
+    }
+    let mut bytes = Vec::new(alloc);
+    let mut piece = [0u8; PIECE];
+    loop {
+        match shelf.read(&mut piece) {
+            Err(Failed) => return Err(LoadFault::Read),
+            Ok(0) => return Ok(bytes),
+            Ok(count) => {
+                if count > MOST_BYTES - bytes.len() {
+                    return Err(LoadFault::TooLong);
+                }
+                if bytes.extend_from_slice(&piece[..count]).is_err() {
+                    return Err(LoadFault::NoMemory);
+                }
+            }
+        }
+    }
+}
