@@ -6,3 +6,4 @@ pub mod StackLemmas
 pub mod LexerLemmas
 pub mod SizeLemmas
 pub mod ReadLemmas
+pub mod EntriesLemmas

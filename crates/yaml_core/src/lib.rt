@@ -2,6 +2,7 @@
 #![tactic(auto)]
 
 mod blocks;
+mod entries;
 mod fault;
 mod inline;
 mod lexer;
