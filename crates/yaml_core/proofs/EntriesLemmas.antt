@@ -1,5 +1,5 @@
 -- The pairs of a mapping as they are found by key.
-use Rattle.std.proofs.Common.{◌≡◌, ℕ, Bool, true, false, cond, ◌||◌, List, [], ◌∷◌, ◌++◌, map, refl, ap, sym, ◌∙◌, Option, Some, None}
+use Rattle.std.proofs.Common.{◌≡◌, Bool, true, false, cond, ◌||◌, List, [], ◌∷◌, ◌++◌, map, refl, ap, sym, ◌∙◌, Option, Some, None}
 use Rattle.std.specs.Prelude.{string_bytes, is_some}
 use Rattle.std.specs.Str.{bytes_eq}
 use Rattle.std.specs.declared.alloc.Global.{Global}
@@ -7,8 +7,7 @@ use Rattle.std.specs.declared.string.String.{String}
 use Rattle.std.specs.Map.{lookup}
 use Rattle.std.proofs.lemmas.List.{map-append}
 use Rattle.yaml_core.specs.declared.node.Node.{Node}
-use Rattle.yaml_core.specs.declared.node.Pair.{Pair}
-use Rattle.yaml_core.specs.Tree.{has_key, add_pair, pair}
+use Rattle.yaml_core.specs.Tree.{has_key, add_pair}
 use Rattle.yaml_core.specs.Entries.{pair_of}
 
 abbrev pub Entry : Type 0

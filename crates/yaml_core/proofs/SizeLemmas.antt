@@ -1,5 +1,5 @@
 -- The number of nodes, by the form of a node.
-use Rattle.std.proofs.Common.{◌≡◌, ℕ, ◌+◌, List, map, refl, ap, sym, ◌∙◌}
+use Rattle.std.proofs.Common.{◌≡◌, ℕ, ◌+◌, List, map, ap, sym, ◌∙◌}
 use Rattle.std.specs.Prelude.{sum}
 use Rattle.yaml_core.specs.declared.node.Node.{Node, fold-Node, fold-roll-Node}
 use Rattle.yaml_core.specs.declared.node.Node.TheOpen.{Node-F}

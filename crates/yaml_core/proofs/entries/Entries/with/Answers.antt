@@ -1,5 +1,4 @@
 use Rattle.std.proofs.Common.{sym, ◌∙◌, ap, Some, map}
-use Rattle.std.specs.Prelude.{string_bytes}
 use Rattle.std.specs.String.{string_eq}
 use Rattle.indexmap.proofs.CallerLemmas.{insert_entry-new}
 use Rattle.yaml_core.specs.Entries.{pair_of}
