@@ -1,0 +1,11 @@
+pub mod CanonicalFacts
+pub mod DigitFacts
+pub mod ExponentFacts
+pub mod MantissaFacts
+pub mod Meaning
+pub mod NumeralFacts
+pub mod PowerFacts
+pub mod QuotientFacts
+pub mod ReadsBack
+pub mod Spelled
+pub mod SpellingFacts
