@@ -1,0 +1,4 @@
+pub mod Name
+pub mod Grade
+pub mod Criterion
+pub mod Problem
