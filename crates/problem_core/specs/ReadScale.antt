@@ -32,25 +32,34 @@ abbrev pub direction_named : List ℕ → Option Direction
 direction_named text = lookup (bytes_eq text)
     ((codes "increasing", Rising) ∷ (codes "isotone", Rising) ∷ (codes "decreasing", Falling) ∷ (codes "antitone", Falling) ∷ [])
 
+-- the ends of the range of numbers, -10^18 and 10^18
+abbrev pub greatest_number : ℤ
+greatest_number = pos (10 ^ 36)
+
+abbrev pub least_number : ℤ
+least_number = neg_ℤ greatest_number
+
 -- a number, where whole numbers are asked for a whole one
 abbrev pub number_if_whole : Bool → ℤ → Option ℤ
 number_if_whole whole units = if whole && not (is_whole units) then None else Some units
 
--- the number at a bound; a missing bound is the end of the range of numbers on its side
+-- the number at a bound, or the one that stands for a missing bound
 abbrev pub bound_of : Bool → ℤ → Option Node → Option ℤ
 bound_of whole missing None = Some missing
 bound_of whole missing (Some node) = option_and_then (number_if_whole whole) (option_and_then (λ text. result_ok (fixed_of text)) (text_at node))
 
--- the bounds, unless the least is above the greatest
-abbrev pub ordered_bounds : Bool → ℤ → ℤ → Option Bounds
-ordered_bounds whole least most = if int_le least most then Some (record { least = least; most = most; whole = whole }) else None
+-- the bounds where both were read, unless the least is above the greatest
+abbrev pub bounds_between : Bool → Option ℤ → Option ℤ → Option Bounds
+bounds_between whole None most = None
+bounds_between whole (Some least) None = None
+bounds_between whole (Some least) (Some most) = if int_le least most then Some (record { least = least; most = most; whole = whole }) else None
 
 -- the bounds of a scale of numbers
 abbrev pub bounds_of : Bool → Node → Option Bounds
 bounds_of whole item =
-    option_and_then (λ least. option_and_then (ordered_bounds whole least)
-    (bound_of whole (pos (10 ^ 36)) (value_at (codes "max_value") item)))
-    (bound_of whole (neg_ℤ (pos (10 ^ 36))) (value_at (codes "min_value") item))
+    bounds_between whole
+    (bound_of whole least_number (value_at (codes "min_value") item))
+    (bound_of whole greatest_number (value_at (codes "max_value") item))
 
 -- the scale of numbers in a direction
 abbrev pub numbers_towards : Direction → Bounds → Scale
@@ -72,12 +81,13 @@ name_scale_of place item =
     names_of (list.Scale place) [] items >>= λ names.
     Ok (scale.Named names)
 
+-- the scale for a type of values
 abbrev pub scale_by : ValueType → ℕ → Node → Result Scale ProblemFault
 scale_by Real place item = number_scale_of false place item
 scale_by Integer place item = number_scale_of true place item
 scale_by Enumerated place item = name_scale_of place item
 
--- the scale of the criterion at a place
+-- the scale of the criterion at a place, by the type of its values
 unfoldable pub scale_of : ℕ → Node → Result Scale ProblemFault
 scale_of place item =
     ok_or (option_and_then value_type_named (text_under (codes "value_type") item)) (fault.ValueType place) >>= λ type.

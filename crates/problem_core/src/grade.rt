@@ -15,7 +15,7 @@ const UNITS_PER_ONE: u128 = 1_000_000_000_000_000_000;
 
 /// A value on a criterion's scale, which contracts see as a whole number: the units of 10^-18 of a number,
 /// or the place of a name from 0.
-#[derive(Clone, Copy, Debug, PartialEq, Eq)]
+#[derive(Clone, Copy, Debug, PartialEq, Eq, PartialOrd, Ord)]
 pub struct Grade {
     value: i128,
 }
@@ -108,7 +108,8 @@ fn name_grade(names: &Names, text: &str) -> Result<Grade, GradeFault>
     }
 }
 
-/// The grade that a text stands for on a criterion. Takes no memory.
+/// The grade that a text stands for on a criterion. `Err` has the first condition that the text fails. Takes no
+/// memory; a name is found by its hash.
 pub fn grade_of(criterion: &Criterion, text: &str) -> Result<Grade, GradeFault>
     ensures { result ≡ text_grade criterion.now.scale text.now }
 {
@@ -118,7 +119,8 @@ pub fn grade_of(criterion: &Criterion, text: &str) -> Result<Grade, GradeFault>
     }
 }
 
-/// Whether grade `x` is at least as good as grade `t` on a scale.
+/// Whether grade `x` is at least as good as grade `t`: no less on a rising or named scale, no greater on a
+/// falling one.
 pub fn as_good(scale: &Scale, x: Grade, t: Grade) -> bool
     ensures { result ≡ is_as_good scale.now x t }
 {

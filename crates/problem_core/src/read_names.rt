@@ -6,6 +6,7 @@ ghost use Rattle.problem_core.specs.Fault.{Reads};
 ghost use Rattle.problem_core.specs.Name.{is_good_name, is_printable};
 ghost use Rattle.problem_core.specs.ReadNames.{text_in, fault_at, new_name, names_of};
 
+use crate::criterion::MOST_NAMES;
 use crate::fault::ProblemFault;
 use crate::names::{MOST_NAME_BYTES, Names};
 use crate::tree::text_under;
@@ -78,7 +79,7 @@ fn new_name<'a>(earlier: &Names, list: NameList, item: &'a Node) -> Option<&'a s
 
 /// The names of the items.
 pub fn read_names(alloc: Global, list: NameList, items: &[Node]) -> Result<Names, ProblemFault>
-    requires { length items.now ≤ 1000 }
+    requires { length items.now ≤ MOST_NAMES }
     ensures { Reads result (names_of list [] items.now) }
 {
     let mut names = Names::new(alloc);
