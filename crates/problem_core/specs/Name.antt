@@ -4,7 +4,7 @@ use Rattle.std.specs.List.{list_all, list_any}
 use Rattle.std.specs.Str.{bytes_eq}
 use Rattle.problem_core.specs.declared.names.TheConstants.{MOST_NAME_BYTES}
 
--- a byte of no control character: not below U+0020, and not U+007F
+-- A byte of no control character: not below U+0020, and not U+007F. Characters above U+007F have no such byte.
 abbrev pub is_printable : ℕ → Bool
 is_printable byte = nat_le 32 byte && not (byte == 127)
 
