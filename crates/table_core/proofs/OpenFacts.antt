@@ -1,5 +1,5 @@
 -- What is answered at each step of opening a table.
-use Rattle.std.proofs.Common.{◌≡◌, ℕ, List, [], ◌∷◌, Option, None, Some, Bool, true, false, Result, Ok, Err, MatchResult, is_err, refl, ◌⊎◌, inl, inr, sym, true≢false}
+use Rattle.std.proofs.Common.{◌≡◌, ℕ, List, [], ◌∷◌, None, Some, true, Result, Ok, Err, MatchResult, is_err, refl, inl, inr, sym, true≢false}
 use Rattle.std.specs.Prelude.{IsUtf8}
 use Rattle.std.specs.Str.{is_utf8}
 use Rattle.std.proofs.lemmas.Bool.{cases_Bool}

@@ -1,15 +1,14 @@
 -- What a read of a record keeps, and why it fails.
-use Rattle.std.proofs.Common.{◌≡◌, ℕ, ◌≤◌, length, arith, List, [], ◌∷◌, Option, None, Some, IsSome, Result, Ok, Err, MatchResult, is_err, Bool, true, false, refl, sym, ap, ◌∙◌, inl, inr, true≢false}
-use Rattle.std.specs.Prelude.{IfSome, IsUtf8}
+use Rattle.std.proofs.Common.{◌≡◌, ℕ, ◌≤◌, length, arith, List, [], Option, None, Some, Result, Ok, Err, MatchResult, is_err, true, false, refl, sym, ap, ◌∙◌, inl, true≢false}
+use Rattle.std.specs.Prelude.{IsUtf8}
 use Rattle.csv.specs.Machine.{Read, next_record}
-use Rattle.csv.specs.Reading.{default_config, source_of, pending_of, Reached, ReadRecord, ReadsNext, NextIs, TookRecord, ExplainsRead, took_first}
+use Rattle.csv.specs.Reading.{default_config, source_of, pending_of, ReadRecord, ReadsNext, NextIs, ExplainsRead, took_first}
 use Rattle.csv.specs.Records.{AllText}
 use Rattle.csv.specs.declared.parser.State.{State}
 use Rattle.csv.specs.declared.reader.Reader.{Reader}
 use Rattle.csv.specs.declared.error.ErrorKind.{ErrorKind}
 use Rattle.csv.specs.declared.error.ErrorKind.TheVariants as kind
-use Rattle.csv.proofs.ReadFacts.{rows-more}
-use Rattle.table_core.specs.Records.{Source, bytes_left, ReadsRecords, IsPlain}
+use Rattle.table_core.specs.Records.{Source, bytes_left, ReadsRecords}
 use Rattle.table_core.proofs.RecordFacts.{known_value, record-fields, record-less}
 use Rattle.table_core.proofs.TextFacts.{record-text}
 

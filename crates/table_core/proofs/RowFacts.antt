@@ -1,6 +1,6 @@
 -- The row of a record, read a cell after another.
-use Rattle.std.proofs.Common.{◌≡◌, ◌==◌, ℕ, zero, suc, ◌+◌, ◌<◌, ◌≤◌, List, [], ◌∷◌, ◌++◌, length, get_or, drop, drop-cons, map, Option, Some, None, Bool, true, false, refl, sym, ap, ◌∙◌, ◌⊎◌, inl, inr, append_assoc, add-one, arith, eq-eqb}
-use Rattle.std.specs.Prelude.{ℤ, Result, Ok, Err, MatchResult, slice_get, codes, position}
+use Rattle.std.proofs.Common.{◌≡◌, ℕ, zero, suc, ◌+◌, ◌<◌, ◌≤◌, List, [], ◌∷◌, ◌++◌, length, get_or, drop, drop-cons, map, Option, Some, refl, sym, ap, ◌∙◌, ◌⊎◌, inl, inr, append_assoc, add-one, arith, eq-eqb}
+use Rattle.std.specs.Prelude.{ℤ, Result, Ok, Err, MatchResult, slice_get}
 use Rattle.std.proofs.lemmas.Bool.{ne_eqb}
 use Rattle.std.proofs.lemmas.List.{append-nil, drop_all}
 use Rattle.std.proofs.lemmas.Option.{get_or_from_slice_get}
@@ -8,7 +8,7 @@ use Rattle.problem_core.specs.Grade.{text_grade}
 use Rattle.problem_core.specs.Problem.{ProblemValue, criterion_names}
 use Rattle.problem_core.specs.declared.criterion.Criterion.{Criterion}
 use Rattle.problem_core.specs.declared.grade.GradeFault.{GradeFault}
-use Rattle.table_core.specs.Header.{column_of, columns_of}
+use Rattle.table_core.specs.Header.{column_of}
 use Rattle.table_core.specs.Row.{◌>>=◌, cell_of, cells_of, field_category, grades_of, row_of}
 use Rattle.table_core.specs.Table.{AreColumns, cells_at, row_at}
 use Rattle.table_core.specs.declared.fault.RowFault.{RowFault}

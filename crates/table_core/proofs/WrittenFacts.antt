@@ -1,5 +1,5 @@
 -- A record as it is written is what `csv` writes by default.
-use Rattle.std.proofs.Common.{◌≡◌, ◌==◌, ℕ, List, [], ◌∷◌, ◌++◌, map, get_or, Bool, true, false, refl, sym, ap, ◌∙◌, inl, inr, append_assoc, if◌then◌else◌, ◌||◌}
+use Rattle.std.proofs.Common.{◌≡◌, ◌==◌, ℕ, List, [], ◌∷◌, ◌++◌, map, get_or, refl, sym, ap, ◌∙◌, inl, inr, append_assoc, ◌||◌}
 use Rattle.std.specs.List.{flat_map, join_with_byte, list_any}
 use Rattle.std.proofs.lemmas.Bool.{cases_Bool, eqb-true}
 use Rattle.std.proofs.lemmas.List.{append-nil}
@@ -8,7 +8,7 @@ use Rattle.std.proofs.lemmas.List.Folds.{flat_map-map}
 use Rattle.csv.specs.Writing.{default_writer, escaped, fields_text, is_blank, needs_byte, row_text}
 use Rattle.csv.specs.Writing as csv
 use Rattle.table_core.specs.Table.{cells_at}
-use Rattle.table_core.specs.Written.{doubled, field_text, is_special, quoted, record_text}
+use Rattle.table_core.specs.Written.{doubled, field_text, is_special, record_text}
 
 -- the same bytes call for quotes
 special-same : (b : ℕ) → needs_byte default_writer b ≡ is_special b

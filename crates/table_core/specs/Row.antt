@@ -1,5 +1,5 @@
 -- The row that a record is.
-use Rattle.std.specs.Prelude.{ℕ, ◌+◌, ◌==◌, Bool, List, [], ◌∷◌, length, map, codes, ℤ, Option, Some, None, Result, Ok, Err, position, slice_index_or, if◌then◌else◌}
+use Rattle.std.specs.Prelude.{ℕ, ◌+◌, ◌==◌, List, [], ◌∷◌, length, map, codes, ℤ, Option, Some, None, Result, Ok, Err, position, slice_index_or, if◌then◌else◌}
 use Rattle.std.specs.Str.{bytes_eq}
 use Rattle.problem_core.specs.Grade.{text_grade}
 use Rattle.problem_core.specs.Problem.{ProblemValue, criterion_names}

@@ -1,5 +1,5 @@
 -- What a table keeps, and what it answers next.
-use Rattle.std.specs.Prelude.{◌≡◌, ℕ, ◌+◌, ◌≤◌, ◌==◌, Bool, true, false, List, [], ◌∷◌, length, map, codes, ℤ, Option, Some, None, Result, Ok, Err, position, slice_index_or, if◌then◌else◌}
+use Rattle.std.specs.Prelude.{◌≡◌, ℕ, ◌+◌, ◌≤◌, Bool, true, false, List, [], ◌∷◌, length, map, codes, ℤ, Option, Some, None, Result, Ok, Err, position, slice_index_or, if◌then◌else◌}
 use Rattle.std.specs.Str.{bytes_eq, is_utf8}
 use Rattle.problem_core.specs.Problem.{ProblemValue}
 use Rattle.problem_core.specs.declared.problem.TheConstants.{MOST_CRITERIA}

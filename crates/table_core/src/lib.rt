@@ -8,6 +8,8 @@ mod put;
 mod records;
 mod row;
 mod table;
+#[cfg(test)]
+mod tests;
 
 pub use fault::{RowFault, TableFault};
 pub use put::{put_header, put_row};

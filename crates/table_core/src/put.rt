@@ -2,7 +2,8 @@
 ghost use Rattle.std.specs.Prelude.{◌≡◌, [], ◌∷◌, ◌++◌, IfOk, OnOk, OnErr};
 ghost use Rattle.std.specs.List.{flat_map, list_any};
 ghost use Rattle.csv.specs.Records.{fields_of};
-ghost use Rattle.csv.specs.Writing.{default_writer, row_text};
+ghost use Rattle.csv.specs.Machine.{line_feed};
+ghost use Rattle.csv.specs.Writing.{comma, default_writer, row_text};
 ghost use Rattle.lists_core.specs.Puts.{Puts};
 ghost use Rattle.table_core.specs.Written.{doubled, field_text, header_fields, is_special, quoted, record_text, row_fields};
 
@@ -84,7 +85,7 @@ pub fn put_field(field: &[u8], out: &mut Vec<u8>) -> Result<(), AllocError>
 
 /// Appends a comma and a field.
 pub fn put_next(field: &[u8], out: &mut Vec<u8>) -> Result<(), AllocError>
-    ensures { Puts out.old.items out.new.items result (44 ∷ field_text field.now) }
+    ensures { Puts out.old.items out.new.items result (comma ∷ field_text field.now) }
 {
     put_byte(b',', out)?;
     put_field(field, out)
@@ -92,7 +93,7 @@ pub fn put_next(field: &[u8], out: &mut Vec<u8>) -> Result<(), AllocError>
 
 /// Appends the last field of a record, and ends the record.
 pub fn put_last(field: &[u8], out: &mut Vec<u8>) -> Result<(), AllocError>
-    ensures { Puts out.old.items out.new.items result ((44 ∷ field_text field.now) ++ 10 ∷ []) }
+    ensures { Puts out.old.items out.new.items result ((comma ∷ field_text field.now) ++ line_feed ∷ []) }
 {
     put_next(field, out)?;
     put_byte(b'\n', out)

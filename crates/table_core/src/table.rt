@@ -2,6 +2,7 @@
 ghost use Rattle.std.specs.Prelude.{◌≡◌, ◌⊎◌, ◌+◌, ◌≤◌, ◌<◌, [], ◌++◌, ◌∷◌, length, drop, Some, None, Ok, Err, slice_get, slice_index_or, is_some, IsSome, IfSome, IfOk, IfErr, OnOk, OnErr, MatchResult, if◌then◌else◌};
 ghost use Rattle.std.specs.List.{flat_map};
 ghost use Rattle.csv.specs.Records.{fields_of};
+ghost use Rattle.csv.specs.Writing.{comma};
 ghost use Rattle.lists_core.specs.Puts.{Puts};
 ghost use Rattle.table_core.specs.Table.{cells_at, next_row, opening, IsTableOf};
 ghost use Rattle.table_core.specs.Written.{field_text, record_text, row_fields};
@@ -52,7 +53,7 @@ fn put_columns(
     record: &StringRecord,
     out: &mut Vec<u8>,
 ) -> Result<(), AllocError>
-    ensures { Puts out.old.items out.new.items result (flat_map (λ column. 44 ∷ field_text (slice_index_or (fields_of record.now) column [])) columns.now) }
+    ensures { Puts out.old.items out.new.items result (flat_map (λ column. comma ∷ field_text (slice_index_or (fields_of record.now) column [])) columns.now) }
 {
     for column in columns {
         put_next(field(record, *column).as_bytes(), out)?;
@@ -144,6 +145,7 @@ impl Table {
         ensures number { IfOk result (λ found. self.new.number ≡ (if found then self.old.number + 1 else self.old.number)) }
         ensures header { self.new.header ≡ self.old.header }
         ensures columns { self.new.columns ≡ self.old.columns }
+        ensures fits { IsTableOf problem.now self.new }
 
         // A fault is kept, and answered again.
         ensures fine { OnOk result (self.new.fault ≡ None) }
@@ -208,6 +210,7 @@ impl Table {
         ensures number { IfOk result (λ row. self.new.number ≡ (if is_some row then self.old.number + 1 else self.old.number)) }
         ensures header { self.new.header ≡ self.old.header }
         ensures columns { self.new.columns ≡ self.old.columns }
+        ensures fits { IsTableOf problem.now self.new }
 
         // A fault is kept, and answered again.
         ensures fine { OnOk result (self.new.fault ≡ None) }

@@ -1,9 +1,7 @@
 use Rattle.std.proofs.Common.{ap, ◌∙◌}
-use Rattle.std.specs.Prelude.{codes}
 use Rattle.csv.specs.Records.{fields_of}
 use Rattle.csv.specs.Writing.{default_writer, row_text}
-use Rattle.problem_core.specs.Problem.{criterion_names}
-use Rattle.table_core.specs.Written.{header_fields, record_text, row_fields}
+use Rattle.table_core.specs.Written.{record_text, row_fields}
 use Rattle.table_core.proofs.PieceFacts.{puts-whole}
 use Rattle.table_core.proofs.WrittenFacts.{row_text-between}
 use Rattle.table_core.proofs.put.put_row.Goals as goal

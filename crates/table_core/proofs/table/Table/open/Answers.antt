@@ -1,7 +1,6 @@
-use Rattle.std.proofs.Common.{◌≡◌, ◌∷◌, sym, ◌∙◌, inr}
+use Rattle.std.proofs.Common.{sym, ◌∙◌, inr}
 use Rattle.std.specs.Prelude.{IsUtf8}
 use Rattle.csv.specs.Records.{fields_of}
-use Rattle.table_core.specs.Records.{table_records}
 use Rattle.table_core.proofs.ReadFacts.{no-error}
 use Rattle.table_core.proofs.OpenFacts.{an-error, opening-other, opening-none, opening-refused, opening-accepted}
 use Rattle.table_core.proofs.table.Table.open.Goals as goal
