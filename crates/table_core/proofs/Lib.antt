@@ -1,0 +1,11 @@
+pub mod RecordFacts
+pub mod TextFacts
+pub mod LeadingFacts
+pub mod ReadFacts
+pub mod SearchFacts
+pub mod NameFacts
+pub mod PieceFacts
+pub mod WrittenFacts
+pub mod RowFacts
+pub mod OpenFacts
+pub mod RowsFacts

@@ -1,0 +1,18 @@
+//! Tables of alternatives: their rows read, and written as records.
+#![tactic(auto)]
+
+mod fault;
+mod header;
+mod leading;
+mod put;
+mod records;
+mod row;
+mod table;
+#[cfg(test)]
+mod tests;
+
+pub use fault::{RowFault, TableFault};
+pub use put::{put_header, put_row};
+pub use records::MOST_BYTES;
+pub use row::{Row, RowGrades, Texts};
+pub use table::Table;
