@@ -5,3 +5,4 @@ pub mod FaultFacts
 pub mod ChainFacts
 pub mod GoodFacts
 pub mod TruthFacts
+pub mod WriteFacts

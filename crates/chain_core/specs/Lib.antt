@@ -6,3 +6,4 @@ pub mod Log
 pub mod Truth
 pub mod Fresh
 pub mod Stamps
+pub mod Text

@@ -8,6 +8,7 @@ mod fault;
 mod formula;
 mod literal;
 mod log;
+mod write;
 
 pub use checker::{Accepted, check};
 pub use encoding::Encoding;
@@ -15,3 +16,4 @@ pub use fault::CheckFault;
 pub use formula::{Formula, MOST_CLAUSES, MOST_VARIABLES};
 pub use literal::Literal;
 pub use log::{Hints, Lemma, Literals, Log};
+pub use write::{put_dimacs, write_log};

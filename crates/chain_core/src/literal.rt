@@ -1,6 +1,6 @@
 //! A variable with a sign.
 ghost use Rattle.std.specs.Prelude.{IfSome, IsNone, pos, negsuc, ◌⊎◌, ◌↔◌, ◌≡◌, ◌+◌, ◌*◌, ◌<◌, ◌≤◌, ◌^◌};
-ghost use Rattle.chain_core.specs.Literal.{negation, variable_of, number_of};
+ghost use Rattle.chain_core.specs.Literal.{negation, variable_of, has_minus, number_of};
 
 use std::marker::Model;
 
@@ -70,6 +70,13 @@ impl Literal {
         ensures most { result ≤ 2147483647 }
     {
         self.place / 2
+    }
+
+    /// Whether the sign is minus.
+    pub fn has_minus(self) -> bool
+        ensures { result ≡ has_minus self }
+    {
+        self.place % 2 == 1
     }
 
     /// The literal of the same variable with the other sign.
