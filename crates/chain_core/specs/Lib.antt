@@ -7,3 +7,5 @@ pub mod Truth
 pub mod Fresh
 pub mod Stamps
 pub mod Text
+pub mod Reading
+pub mod Front

@@ -44,6 +44,14 @@ impl Literal {
         }
     }
 
+    /// The literal of a place.
+    pub fn at(place: u32) -> Literal
+        requires { 2 ≤ place }
+        ensures { result ≡ place }
+    {
+        Literal { place }
+    }
+
     /// The number that writes this literal.
     pub fn number(self) -> i32
         ensures { result ≡ number_of self }
