@@ -33,7 +33,7 @@ contains_tested (x ∷ xs) y h =
       | inr other ↦ Contains-later x y xs (contains_tested xs y (sym (ap (λ b. b || list_any (λ z. z == y) xs) other.0) ∙ h))
     ]
 
-orb_right : (a b : Bool) → b ≡ true → (a || b) ≡ true
+pub orb_right : (a b : Bool) → b ≡ true → (a || b) ≡ true
 orb_right true b h = refl
 orb_right false b h = h
 
@@ -76,7 +76,7 @@ open_is set (y ∷ clause) x h =
           ])
     ]
 
-both_true : (a b : Bool) → (a && b) ≡ true → (a ≡ true) × (b ≡ true)
+pub both_true : (a b : Bool) → (a && b) ≡ true → (a ≡ true) × (b ≡ true)
 both_true true b h = (refl, h)
 both_true false b h = absurd (false≢true h)
 

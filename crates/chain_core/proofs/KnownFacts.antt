@@ -50,3 +50,9 @@ known_lemma formula log k n id count lemma literals size above within short at r
     is ∙ ap (λ (x : Lemma). x.literals) (sym found ∙ sym taken) ∙ sym mapped ∙ ap (λ j. get_or (map (λ (x : Lemma). x.literals) (take k log)) j []) (sym place) ∙ sym past in
     let size : length (known_before formula log k) ≡ length formula.clauses + k = length-known formula log k short in
     clause_at_place (known_before formula log k) id literals (omega arith) (omega (arith, size)) there
+
+-- the clause at place k, by its id
+pub clause_read : (clauses : List (List ℕ)) (k : ℕ) (clause : List ℕ) → clause_at clauses (k + 1) ≡ Some clause → get_or clauses k clause ≡ clause
+clause_read clauses k clause at =
+    let next : suc k ≡ k + 1 = omega arith in
+    get_or_from_slice_get clauses k clause clause (ap (clause_at clauses) next ∙ at)

@@ -5,3 +5,9 @@ pub mod FaultFacts
 pub mod ChainFacts
 pub mod GoodFacts
 pub mod TruthFacts
+pub mod WriteFacts
+pub mod NumberFacts
+pub mod HintFacts
+pub mod LineFacts
+pub mod WordFacts
+pub mod ReadsBack

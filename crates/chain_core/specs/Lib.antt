@@ -6,3 +6,6 @@ pub mod Log
 pub mod Truth
 pub mod Fresh
 pub mod Stamps
+pub mod Text
+pub mod Reading
+pub mod Front

@@ -1,8 +1,11 @@
 -- A literal is seen as its place: twice its variable, and one more where its sign is minus.
-use Rattle.std.specs.Prelude.{ℕ, ℤ, pos, negsuc, ◌+◌, ◌-◌, ◌/◌, ◌%◌, ◌==◌, if◌then◌else◌}
+use Rattle.std.specs.Prelude.{ℕ, Bool, ℤ, pos, negsuc, ◌+◌, ◌-◌, ◌/◌, ◌%◌, ◌==◌, if◌then◌else◌}
 
 abbrev pub variable_of : ℕ → ℕ
 variable_of l = l / 2
+
+abbrev pub has_minus : ℕ → Bool
+has_minus l = l % 2 == 1
 
 -- the literal of the same variable with the other sign
 abbrev pub negation : ℕ → ℕ

@@ -1,6 +1,21 @@
-//! Why a log is no refutation.
+//! Why a text is no log, and why a log is no refutation.
 
 use thiserror::Error;
+
+/// Why a text is no log.
+#[derive(Clone, Copy, Debug, PartialEq, Eq, Error)]
+pub enum LogFault {
+    /// The first line, with its line end, is not one that names an encoding.
+    #[error("no header of a refutation")]
+    Header,
+    /// The first line after the header that is not a lemma with its line end, where the header is
+    /// line 1.
+    #[error("line {0}: not a lemma")]
+    Shape(u32),
+    /// The allocator gave no memory.
+    #[error("out of memory")]
+    NoMemory,
+}
 
 /// Why a log is no refutation of a formula. The line is that of the first lemma that fails, where
 /// the first lemma stands on line 2.

@@ -8,10 +8,18 @@ mod fault;
 mod formula;
 mod literal;
 mod log;
+mod number;
+mod read;
+mod write;
 
 pub use checker::{Accepted, check};
 pub use encoding::Encoding;
-pub use fault::CheckFault;
+pub use fault::{CheckFault, LogFault};
 pub use formula::{Formula, MOST_CLAUSES, MOST_VARIABLES};
 pub use literal::Literal;
 pub use log::{Hints, Lemma, Literals, Log};
+pub use read::{MOST_BYTES, read_log};
+pub use write::{put_dimacs, write_log};
+
+#[cfg(test)]
+mod tests;

@@ -1,6 +1,6 @@
 //! A variable with a sign.
 ghost use Rattle.std.specs.Prelude.{IfSome, IsNone, pos, negsuc, ◌⊎◌, ◌↔◌, ◌≡◌, ◌+◌, ◌*◌, ◌<◌, ◌≤◌, ◌^◌};
-ghost use Rattle.chain_core.specs.Literal.{negation, variable_of, number_of};
+ghost use Rattle.chain_core.specs.Literal.{negation, variable_of, has_minus, number_of};
 
 use std::marker::Model;
 
@@ -44,6 +44,14 @@ impl Literal {
         }
     }
 
+    /// The literal of a place.
+    pub fn at(place: u32) -> Literal
+        requires { 2 ≤ place }
+        ensures { result ≡ place }
+    {
+        Literal { place }
+    }
+
     /// The number that writes this literal.
     pub fn number(self) -> i32
         ensures { result ≡ number_of self }
@@ -70,6 +78,13 @@ impl Literal {
         ensures most { result ≤ 2147483647 }
     {
         self.place / 2
+    }
+
+    /// Whether the sign is minus.
+    pub fn has_minus(self) -> bool
+        ensures { result ≡ has_minus self }
+    {
+        self.place % 2 == 1
     }
 
     /// The literal of the same variable with the other sign.

@@ -1,0 +1,8 @@
+use Rattle.std.proofs.Common.{◌≡◌, [], ◌∷◌, ◌++◌, take}
+use Rattle.std.specs.List.{flat_map}
+use Rattle.chain_core.specs.Text.{literal_word}
+use Rattle.chain_core.proofs.write.put_literals.Given as goal
+
+-- what was put so far
+abbrev pub invariant-loop-literal : goal.invariant-loop-literal
+invariant-loop-literal l = l.out.items ≡ l.initial.out.items ++ flat_map (λ x. literal_word x ++ 32 ∷ []) (take l.literal-index l.literals)

@@ -1,0 +1,141 @@
+//! Worked logs: each call that takes memory answers with ample memory, and the texts and the
+//! answers are those of the format's description.
+
+use crate::checker::has_higher;
+use crate::{
+    CheckFault, Encoding, Formula, Literal, LogFault, MOST_BYTES, MOST_CLAUSES, check, put_dimacs,
+    read_log, write_log,
+};
+use std::alloc::Global;
+use std::test::Fail;
+
+#[derive(Clone, Copy, Debug, PartialEq, Eq)]
+enum Answer {
+    Accepted,
+    Unread(LogFault),
+    Refused(CheckFault),
+}
+
+fn add_clause(alloc: Global, formula: &mut Formula, numbers: &[i32]) -> Result<(), Fail> {
+    let mut clause = Vec::new(alloc);
+    for number in numbers {
+        clause.push(Literal::of(*number).ok_or("no literal")?)?;
+    }
+    if has_higher(clause.as_slice(), formula.variables()) || formula.count() >= MOST_CLAUSES {
+        return Err("no room".into());
+    }
+    formula.add(clause.as_slice())?;
+    Ok(())
+}
+
+/// The formula of a problem with one value that stands in both of two categories.
+fn one_value_in_two_categories(alloc: Global) -> Result<Formula, Fail> {
+    let mut formula = Formula::new(alloc, 2);
+    add_clause(alloc, &mut formula, &[-2, 1])?;
+    add_clause(alloc, &mut formula, &[-2, -1])?;
+    add_clause(alloc, &mut formula, &[2])?;
+    Ok(formula)
+}
+
+fn answer_to(alloc: Global, formula: &Formula, text: &str) -> Result<Answer, Fail> {
+    if text.len() > MOST_BYTES {
+        return Err("too long".into());
+    }
+    match read_log(alloc, text.as_bytes()) {
+        Err(fault) => Ok(Answer::Unread(fault)),
+        Ok((_, log)) => match check(alloc, formula, log) {
+            Err(fault) => Ok(Answer::Refused(fault)),
+            Ok(_) => Ok(Answer::Accepted),
+        },
+    }
+}
+
+#[test]
+fn logs_are_accepted_or_refused_by_their_first_fault(rt: HostRuntime) -> Result<(), Fail> {
+    let cases: [(&str, Answer); 15] = [
+        (
+            "lincs-refutation 1 separation\n4 0 3 1 2 0\n",
+            Answer::Accepted,
+        ),
+        (
+            "lincs-refutation 1 separation\n4 0 1 3 1 2 0\n",
+            Answer::Refused(CheckFault::Chain(2)),
+        ),
+        (
+            "lincs-refutation 1 separation\n5 0 3 1 2 0\n",
+            Answer::Refused(CheckFault::Id(2)),
+        ),
+        (
+            "lincs-refutation 1 separation\n4 3 0 3 0\n",
+            Answer::Refused(CheckFault::Literal(2)),
+        ),
+        (
+            "lincs-refutation 1 separation\n4 0 4 0\n",
+            Answer::Refused(CheckFault::Hint(2)),
+        ),
+        (
+            "lincs-refutation 1 separation\n",
+            Answer::Refused(CheckFault::NotEmpty),
+        ),
+        (
+            "lincs-refutation 1 separation\n4 0 3 1 2\n",
+            Answer::Unread(LogFault::Shape(2)),
+        ),
+        ("", Answer::Unread(LogFault::Header)),
+        (
+            "lincs-refutation 1 separation\n4 0 4294967296 0\n",
+            Answer::Unread(LogFault::Shape(2)),
+        ),
+        (
+            "lincs-refutation 1 separation\n4 0 4294967295 0\n",
+            Answer::Refused(CheckFault::Hint(2)),
+        ),
+        (
+            "lincs-refutation 1 separation\n4 2147483648 0 3 0\n",
+            Answer::Unread(LogFault::Shape(2)),
+        ),
+        (
+            "lincs-refutation 1 separation\n4 2147483647 0 3 0\n",
+            Answer::Refused(CheckFault::Literal(2)),
+        ),
+        (
+            "lincs-refutation 1 separation\n4 0 3 1 0\n",
+            Answer::Refused(CheckFault::Chain(2)),
+        ),
+        (
+            "lincs-refutation 1 separation\n4 0 3 1 2 0",
+            Answer::Unread(LogFault::Shape(2)),
+        ),
+        (
+            "lincs-refutation 1 coalitions\n4 0 3 1 2 0\n",
+            Answer::Unread(LogFault::Header),
+        ),
+    ];
+    let formula = one_value_in_two_categories(rt.alloc())?;
+    for (text, answer) in cases.iter() {
+        assert_eq!(rt;
+            answer_to(rt.alloc(), &formula, text)?,
+            *answer,
+            "at {text}"
+        );
+    }
+    Ok(())
+}
+
+#[test]
+fn texts_are_written(rt: HostRuntime) -> Result<(), Fail> {
+    let mut dimacs = Vec::new(rt.alloc());
+    put_dimacs(&one_value_in_two_categories(rt.alloc())?, &mut dimacs)?;
+    assert_eq!(rt;
+        dimacs.as_slice(),
+        b"p cnf 2 3\n-2 1 0\n-2 -1 0\n2 0\n".as_slice()
+    );
+
+    let text = b"lincs-refutation 1 separation\n7 -4 5 0 1 2 0\n8 0 0\n".as_slice();
+    let (encoding, log) = read_log(rt.alloc(), text).ok().ok_or("not read")?;
+    let mut written = Vec::new(rt.alloc());
+    write_log(encoding, &log, &mut written)?;
+    assert_eq!(rt; encoding, Encoding::Separation);
+    assert_eq!(rt; written.as_slice(), text);
+    Ok(())
+}
