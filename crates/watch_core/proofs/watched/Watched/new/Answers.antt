@@ -1,0 +1,12 @@
+use Rattle.std.proofs.Common.{ap, sym, refl, subst, ◌∙◌, ◌≡◌, ◌<◌, ◌≤◌, ◌+◌, ℕ, length, rules, arith, inl, inr, Option, None}
+use Rattle.watch_core.specs.Places.{placed}
+use Rattle.watch_core.specs.Trail.{Assignment, places, value_of}
+use Rattle.watch_core.specs.Settled.{CanPropagate}
+use Rattle.watch_core.specs.Cover.{Propagates}
+use Rattle.watch_core.specs.Watched.{Clauses, IsHeld}
+use Rattle.watch_core.proofs.Held.{held_new, held_entered, held_undone, held_from, going_from, outcome_now}
+use Rattle.watch_core.proofs.watched.Watched.new.Goals as goal
+
+pub invariant_of-result : goal.invariant_of-result
+invariant_of-result g c = held_new g.L.Lit.table_place c.new-3.result c.in_ok-chains.chains.chains c.in_ok-chains.chains.room c.args.variables c.in_ok-trail.trail c.new-3.ensures c.in_ok-chains.ensures.chains c.in_ok-trail.ensures c.level.ensures.kept
+
