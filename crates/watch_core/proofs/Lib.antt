@@ -10,3 +10,4 @@ pub mod Visit
 pub mod Held
 pub mod Adds
 pub mod Looks
+pub mod SixClauses

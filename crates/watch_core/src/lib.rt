@@ -9,3 +9,6 @@ mod added;
 mod trail;
 mod walk;
 mod watched;
+
+#[cfg(test)]
+mod tests;
