@@ -23,12 +23,12 @@ use Rattle.watch_core.proofs.Going.{cut_true, cut_false}
 entry_in : {L : Type 0} (at : L → ℕ) (es : List (Entry L)) (k l : ℕ) (d : Entry L) → is_true (places at (cut es k)) l ≡ true → (b : ℕ) × (b < length es) × (at (get_or es b d).literal ≡ l) × ((get_or es b d).level ≤ k)
 entry_in at [] k l d h = absurd (false≢true h)
 entry_in {L} at (e ∷ es) k l d h = elim (leb_tells e.level k) [
-      inl low ↦ elim (eqb_tells (at e.literal) l) [
-          inl same ↦ (0, omega arith, same.1, low.1)
-        | inr other ↦ up (entry_in at es k l d (sym (ap (λ (xs : List (Entry L)). is_true (places at xs) l) (kept_in e es k low.1) ∙ ap (λ b. b || is_true (places at (cut es k)) l) other.0) ∙ h))
-        ]
-    | inr high ↦ up (entry_in at es k l d (sym (ap (λ (xs : List (Entry L)). is_true (places at xs) l) (left_out e es k high.1)) ∙ h))
-    ]
+  | inl low ↦ elim (eqb_tells (at e.literal) l) [
+    | inl same ↦ (0, omega arith, same.1, low.1)
+    | inr other ↦ up (entry_in at es k l d (sym (ap (λ (xs : List (Entry L)). is_true (places at xs) l) (kept_in e es k low.1) ∙ ap (λ b. b || is_true (places at (cut es k)) l) other.0) ∙ h))
+  ]
+  | inr high ↦ up (entry_in at es k l d (sym (ap (λ (xs : List (Entry L)). is_true (places at xs) l) (left_out e es k high.1)) ∙ h))
+]
   where
     up : ((b : ℕ) × (b < length es) × (at (get_or es b d).literal ≡ l) × ((get_or es b d).level ≤ k)) → (b : ℕ) × (b < length (e ∷ es)) × (at (get_or (e ∷ es) b d).literal ≡ l) × ((get_or (e ∷ es) b d).level ≤ k)
     up r = (suc r.0, omega (arith, r.1), r.2, r.3)
@@ -37,9 +37,9 @@ in_entry : {L : Type 0} (at : L → ℕ) (es : List (Entry L)) (k l : ℕ) (a : 
 in_entry at [] k l a d lt is low = absurd (omega (arith, lt))
 in_entry {L} at (e ∷ es) k l zero d lt is low = ap (λ (xs : List (Entry L)). is_true (places at xs) l) (kept_in e es k low) ∙ ap (λ b. b || is_true (places at (cut es k)) l) (eq-eqb (at e.literal) l is)
 in_entry {L} at (e ∷ es) k l (suc a) d lt is low = elim (leb_tells e.level k) [
-      inl here ↦ ap (λ (xs : List (Entry L)). is_true (places at xs) l) (kept_in e es k here.1) ∙ or_right (at e.literal == l) (is_true (places at (cut es k)) l) (in_entry at es k l a d (omega (arith, lt)) is low)
-    | inr away ↦ ap (λ (xs : List (Entry L)). is_true (places at xs) l) (left_out e es k away.1) ∙ in_entry at es k l a d (omega (arith, lt)) is low
-    ]
+  | inl here ↦ ap (λ (xs : List (Entry L)). is_true (places at xs) l) (kept_in e es k here.1) ∙ or_right (at e.literal == l) (is_true (places at (cut es k)) l) (in_entry at es k l a d (omega (arith, lt)) is low)
+  | inr away ↦ ap (λ (xs : List (Entry L)). is_true (places at xs) l) (left_out e es k away.1) ∙ in_entry at es k l a d (omega (arith, lt)) is low
+]
   where
     or_right : (a b : Bool) → b ≡ true → (a || b) ≡ true
     or_right true b h = refl
@@ -48,9 +48,9 @@ in_entry {L} at (e ∷ es) k l (suc a) d lt is low = elim (leb_tells e.level k) 
 entry_of_true : {L : Type 0} (at : L → ℕ) (es : List (Entry L)) (l : ℕ) (d : Entry L) → is_true (places at es) l ≡ true → (b : ℕ) × (b < length es) × (at (get_or es b d).literal ≡ l)
 entry_of_true at [] l d h = absurd (false≢true h)
 entry_of_true {L} at (e ∷ es) l d h = elim (eqb_tells (at e.literal) l) [
-      inl same ↦ (0, omega arith, same.1)
-    | inr other ↦ (let r = entry_of_true at es l d (sym (ap (λ b. b || is_true (places at es) l) other.0) ∙ h) in (suc r.0, omega (arith, r.1), r.2))
-    ]
+  | inl same ↦ (0, omega arith, same.1)
+  | inr other ↦ (let r = entry_of_true at es l d (sym (ap (λ b. b || is_true (places at es) l) other.0) ∙ h) in (suc r.0, omega (arith, r.1), r.2))
+]
 
 -- what became false no later is false under each cut under which the other one is
 pub not_after : {L : Type 0} (at : L → ℕ) (t : Assignment L) (k l m : ℕ) → NotAfter at t l m → is_false (places at t.entries) l ≡ true → is_false (places at (cut t.entries k)) m ≡ true → is_false (places at (cut t.entries k)) l ≡ true
@@ -58,72 +58,75 @@ not_after {L} at t k l m after fl fm = start t.entries refl where
   start : (es : List (Entry L)) → es ≡ t.entries → is_false (places at (cut t.entries k)) l ≡ true
   start [] e = absurd (false≢true (ap (λ (xs : List (Entry L)). is_false (places at xs) l) e ∙ fl))
   start (d ∷ es) e =
-    (let a = entry_of_true at t.entries (opposite_place l) d fl in
-    let b = entry_in at t.entries k (opposite_place m) d fm in
-    let le = after a.0 b.0 d a.1 b.1 a.2 b.2 in
-    in_entry at t.entries k (opposite_place l) a.0 d a.1 a.2 (omega (arith, le, b.3)))
+      (let a = entry_of_true at t.entries (opposite_place l) d fl in
+      let b = entry_in at t.entries k (opposite_place m) d fm in
+      let le = after a.0 b.0 d a.1 b.1 a.2 b.2 in
+      in_entry at t.entries k (opposite_place l) a.0 d a.1 a.2 (omega (arith, le, b.3)))
 
 -- the covers of a new clause
 pub new_covered : {L : Type 0} (at : L → ℕ) (t : Assignment L) (c : List ℕ) (k side : ℕ) → CanAdd at t c → 2 ≤ length c → side < 2 → is_false (places at (cut t.entries k)) (get_or c side 0) ≡ true → AllBut (places at (cut t.entries k)) [] c (get_or c (1 - side) 0)
 new_covered {L} at t c k side can long low f = elim (cases_eq side 0) [
-      inl zero' ↦ absurd (false≢true (sym (cut_false at t.entries k (opposite_place (get_or c 0 0)) (can.first long)) ∙ ap (λ i. is_false (places at (cut t.entries k)) (get_or c i 0)) (sym zero') ∙ f))
-    | inr one' ↦ (let is : side ≡ 1 = omega (arith, low, one') in
-        let f1 : is_false (places at (cut t.entries k)) (get_or c 1 0) ≡ true = ap (λ i. is_false (places at (cut t.entries k)) (get_or c i 0)) (sym is) ∙ f in
-        elim (can.second long) [
-          inl open' ↦ absurd (false≢true (sym (cut_false at t.entries k (opposite_place (get_or c 1 0)) open') ∙ f1))
+  | inl zero' ↦ absurd (false≢true (sym (cut_false at t.entries k (opposite_place (get_or c 0 0)) (can.first long)) ∙ ap (λ i. is_false (places at (cut t.entries k)) (get_or c i 0)) (sym zero') ∙ f))
+  | inr one' ↦ (let is : side ≡ 1 = omega (arith, low, one') in
+      let f1 : is_false (places at (cut t.entries k)) (get_or c 1 0) ≡ true = ap (λ i. is_false (places at (cut t.entries k)) (get_or c i 0)) (sym is) ∙ f in
+      elim (can.second long) [
+        | inl open' ↦ absurd (false≢true (sym (cut_false at t.entries k (opposite_place (get_or c 1 0)) open') ∙ f1))
         | inr rest ↦ (λ l has ne. (
-            (let e : get_or c has.0 0 ≡ l = get_or_default c has.0 0 l has.1 ∙ has.2 in
-            elim (cases_eq has.0 0) [
-              inl first ↦ absurd (ne (sym e ∙ ap (λ i. get_or c i 0) first ∙ ap (λ i. get_or c (1 - i) 0) (sym is)))
-            | inr later ↦ (let r = rest has.0 (omega (arith, later)) has.1 in
-                ap (is_false (places at (cut t.entries k))) (sym e) ∙ not_after at t k (get_or c has.0 0) (get_or c 1 0) r.1 r.0 f1)
-            ]), refl))
-        ])
-    ]
+          (let e : get_or c has.0 0 ≡ l = get_or_default c has.0 0 l has.1 ∙ has.2 in
+              elim (cases_eq has.0 0) [
+                | inl first ↦ absurd (ne (sym e ∙ ap (λ i. get_or c i 0) first ∙ ap (λ i. get_or c (1 - i) 0) (sym is)))
+                | inr later ↦ (let r = rest has.0 (omega (arith, later)) has.1 in
+                    ap (is_false (places at (cut t.entries k))) (sym e) ∙ not_after at t k (get_or c has.0 0) (get_or c 1 0) r.1 r.0 f1)
+              ]),
+          refl,
+        ))
+      ])
+]
 
 both_at : (chains : List (List ℕ)) (n x y p s : ℕ) (ls : List ℕ) → Contains (chain_at (both_put chains n (x ∷ y ∷ ls)) p) s → Contains (chain_at chains p) s ⊎ (((s ≡ 2 * n) × (p ≡ x)) ⊎ ((s ≡ 2 * n + 1) × (p ≡ y)))
 both_at chains n x y p s ls has = elim (put_at (put_first chains x (2 * n)) y (2 * n + 1) p s has) [
-      inl second ↦ inr (inr second)
-    | inr old ↦ (elim (put_at chains x (2 * n) p s old) [ inl first ↦ inr (inl first) | inr older ↦ inl older ])
-    ]
+  | inl second ↦ inr (inr second)
+  | inr old ↦ (elim (put_at chains x (2 * n) p s old) [ inl first ↦ inr (inl first) | inr older ↦ inl older ])
+]
   where
     head_of : (x s : ℕ) (xs : List ℕ) → Contains (x ∷ xs) s → (s ≡ x) ⊎ Contains xs s
     head_of x s xs (zero, lt, e) = inl (sym e)
     head_of x s xs (suc i, lt, e) = inr (i, omega (arith, lt), e)
+
     put_at : (chains : List (List ℕ)) (g u p s : ℕ) → Contains (chain_at (put_first chains g u) p) s → ((s ≡ u) × (p ≡ g)) ⊎ Contains (chain_at chains p) s
     put_at chains g u p s has = elim (cases_lt g (length chains)) [
-          inl lt ↦ (elim (cases_eq p g) [
-              inl same ↦ (let P : List ℕ → Type 0 = λ xs. Contains xs s in
-                let there : Contains (u ∷ chain_at chains g) s = subst P (ap (chain_at (put_first chains g u)) same ∙ get_or-set_same chains g (u ∷ chain_at chains g) [] lt) has in
-                elim (head_of u s (chain_at chains g) there) [ inl e ↦ inl (e, same) | inr old ↦ inr (let Q : ℕ → Type 0 = λ q. Contains (chain_at chains q) s in subst Q (sym same) old) ])
-            | inr other ↦ inr (let P : List ℕ → Type 0 = λ xs. Contains xs s in subst P (get_or-set_other chains g p (u ∷ chain_at chains g) [] other) has)
-            ])
-        | inr past ↦ inr (let P : List (List ℕ) → Type 0 = λ cs. Contains (chain_at cs p) s in subst P (set_past chains g (u ∷ chain_at chains g) past) has)
-        ]
+      | inl lt ↦ (elim (cases_eq p g) [
+        | inl same ↦ (let P : List ℕ → Type 0 = λ xs. Contains xs s in
+            let there : Contains (u ∷ chain_at chains g) s = subst P (ap (chain_at (put_first chains g u)) same ∙ get_or-set_same chains g (u ∷ chain_at chains g) [] lt) has in
+            elim (head_of u s (chain_at chains g) there) [ inl e ↦ inl (e, same) | inr old ↦ inr (let Q : ℕ → Type 0 = λ q. Contains (chain_at chains q) s in subst Q (sym same) old) ])
+        | inr other ↦ inr (let P : List ℕ → Type 0 = λ xs. Contains xs s in subst P (get_or-set_other chains g p (u ∷ chain_at chains g) [] other) has)
+      ])
+      | inr past ↦ inr (let P : List (List ℕ) → Type 0 = λ cs. Contains (chain_at cs p) s in subst P (set_past chains g (u ∷ chain_at chains g) past) has)
+    ]
 
 put_new : (chains : List (List ℕ)) (g u : ℕ) → g < length chains → Contains (chain_at (put_first chains g u) g) u
 put_new chains g u lt = (let P : List ℕ → Type 0 = λ xs. Contains xs u in subst P (sym (get_or-set_same chains g (u ∷ chain_at chains g) [] lt)) (zero, omega arith, refl))
 
 put_old : (chains : List (List ℕ)) (g u p s : ℕ) → Contains (chain_at chains p) s → Contains (chain_at (put_first chains g u) p) s
 put_old chains g u p s has = elim (cases_lt g (length chains)) [
-      inl lt ↦ (elim (cases_eq p g) [
-          inl same ↦ (let P : List ℕ → Type 0 = λ xs. Contains xs s in let Q : ℕ → Type 0 = λ q. Contains (chain_at chains q) s in
-            let old : Contains (chain_at chains g) s = subst Q same has in
-            subst P (sym (ap (chain_at (put_first chains g u)) same ∙ get_or-set_same chains g (u ∷ chain_at chains g) [] lt)) (suc old.0, omega (arith, old.1), old.2))
-        | inr other ↦ (let P : List ℕ → Type 0 = λ xs. Contains xs s in subst P (sym (get_or-set_other chains g p (u ∷ chain_at chains g) [] other)) has)
-        ])
-    | inr past ↦ (let P : List (List ℕ) → Type 0 = λ cs. Contains (chain_at cs p) s in subst P (sym (set_past chains g (u ∷ chain_at chains g) past)) has)
-    ]
+  | inl lt ↦ (elim (cases_eq p g) [
+    | inl same ↦ (let P : List ℕ → Type 0 = λ xs. Contains xs s in let Q : ℕ → Type 0 = λ q. Contains (chain_at chains q) s in
+        let old : Contains (chain_at chains g) s = subst Q same has in
+        subst P (sym (ap (chain_at (put_first chains g u)) same ∙ get_or-set_same chains g (u ∷ chain_at chains g) [] lt)) (suc old.0, omega (arith, old.1), old.2))
+    | inr other ↦ (let P : List ℕ → Type 0 = λ xs. Contains xs s in subst P (sym (get_or-set_other chains g p (u ∷ chain_at chains g) [] other)) has)
+  ])
+  | inr past ↦ (let P : List (List ℕ) → Type 0 = λ cs. Contains (chain_at cs p) s in subst P (sym (set_past chains g (u ∷ chain_at chains g) past)) has)
+]
 
 row_cases : (C : List (List ℕ)) (x : List ℕ) (i : ℕ) (P : List ℕ → Type 0) → (i < length C → P (get_or C i [])) → (i ≡ length C → P x) → P [] → P (get_or (C ++ x ∷ []) i [])
 row_cases C x i P old new past =
     (let n = length-append C (x ∷ []) in
     elim (cases_lt i (length C)) [
-      inl lt ↦ subst P (sym (get_or_append_left C (x ∷ []) [] i lt)) (old lt)
-    | inr ge ↦ (elim (cases_eq i (length C)) [
-          inl same ↦ subst P (sym (get_or_at C x [] [] i (sym same))) (new same)
+      | inl lt ↦ subst P (sym (get_or_append_left C (x ∷ []) [] i lt)) (old lt)
+      | inr ge ↦ (elim (cases_eq i (length C)) [
+        | inl same ↦ subst P (sym (get_or_at C x [] [] i (sym same))) (new same)
         | inr ne ↦ subst P (sym (get_or_past (C ++ x ∷ []) i [] (omega (arith, n, ge, ne)))) past
-        ])
+      ])
     ])
 
 row_old : (C : List (List ℕ)) (x : List ℕ) (i : ℕ) → i < length C → get_or (C ++ x ∷ []) i [] ≡ get_or C i []
@@ -143,19 +146,19 @@ watch_new C x p s same long is = (let n = length-append C (x ∷ []) in let e : 
 
 watches_added : (C chains : List (List ℕ)) (x : List ℕ) → Watches C chains → All (λ l. l < length chains) x → Watches (C ++ x ∷ []) (both_put chains (length C) x)
 watches_added C chains [] w inside = record {
-    seats = λ p s has. watch_old C [] p s (w.seats p s has);
-    watched = λ p s is. elim (cases_lt (s / 2) (length C)) [
-        inl lt ↦ w.watched p s (watch_back C [] p s lt is)
-      | inr ge ↦ (let n = length-append C ([] ∷ []) in let e = ap length (get_or_at C [] [] [] (s / 2) (let z : length C ≡ s / 2 = omega (arith, ge, n, is.known) in z)) in absurd (omega (arith, e, is.long)))
-      ];
-  }
+  seats = λ p s has. watch_old C [] p s (w.seats p s has);
+  watched = λ p s is. elim (cases_lt (s / 2) (length C)) [
+    | inl lt ↦ w.watched p s (watch_back C [] p s lt is)
+    | inr ge ↦ (let n = length-append C ([] ∷ []) in let e = ap length (get_or_at C [] [] [] (s / 2) (let z : length C ≡ s / 2 = omega (arith, ge, n, is.known) in z)) in absurd (omega (arith, e, is.long)))
+  ];
+}
 watches_added C chains (a ∷ []) w inside = record {
-    seats = λ p s has. watch_old C (a ∷ []) p s (w.seats p s has);
-    watched = λ p s is. elim (cases_lt (s / 2) (length C)) [
-        inl lt ↦ w.watched p s (watch_back C (a ∷ []) p s lt is)
-      | inr ge ↦ (let n = length-append C ((a ∷ []) ∷ []) in let e = ap length (get_or_at C (a ∷ []) [] [] (s / 2) (let z : length C ≡ s / 2 = omega (arith, ge, n, is.known) in z)) in absurd (omega (arith, e, is.long)))
-      ];
-  }
+  seats = λ p s has. watch_old C (a ∷ []) p s (w.seats p s has);
+  watched = λ p s is. elim (cases_lt (s / 2) (length C)) [
+    | inl lt ↦ w.watched p s (watch_back C (a ∷ []) p s lt is)
+    | inr ge ↦ (let n = length-append C ((a ∷ []) ∷ []) in let e = ap length (get_or_at C (a ∷ []) [] [] (s / 2) (let z : length C ≡ s / 2 = omega (arith, ge, n, is.known) in z)) in absurd (omega (arith, e, is.long)))
+  ];
+}
 watches_added C chains (a ∷ b ∷ ls) w inside =
     let n : ℕ = length C in
     let one' : List (List ℕ) = put_first chains a (2 * n) in
@@ -163,27 +166,27 @@ watches_added C chains (a ∷ b ∷ ls) w inside =
     let lb : b < length one' = (let m = length-set chains a ((2 * n) ∷ chain_at chains a) in let q = inside 1 0 (omega arith) in omega (arith, m, q)) in
     record {
       seats = λ p s has. elim (both_at chains n a b p s ls has) [
-          inl old ↦ watch_old C (a ∷ b ∷ ls) p s (w.seats p s old)
+        | inl old ↦ watch_old C (a ∷ b ∷ ls) p s (w.seats p s old)
         | inr new ↦ (elim new [
-              inl first ↦ watch_new C (a ∷ b ∷ ls) p s (omega (arith, first.0)) (omega arith) (ap (λ i. get_or (a ∷ b ∷ ls) i 0) (let z : s % 2 ≡ 0 = omega (arith, first.0) in z) ∙ sym first.1)
-            | inr second ↦ watch_new C (a ∷ b ∷ ls) p s (omega (arith, second.0)) (omega arith) (ap (λ i. get_or (a ∷ b ∷ ls) i 0) (let z : s % 2 ≡ 1 = omega (arith, second.0) in z) ∙ sym second.1)
-            ])
-        ];
+          | inl first ↦ watch_new C (a ∷ b ∷ ls) p s (omega (arith, first.0)) (omega arith) (ap (λ i. get_or (a ∷ b ∷ ls) i 0) (let z : s % 2 ≡ 0 = omega (arith, first.0) in z) ∙ sym first.1)
+          | inr second ↦ watch_new C (a ∷ b ∷ ls) p s (omega (arith, second.0)) (omega arith) (ap (λ i. get_or (a ∷ b ∷ ls) i 0) (let z : s % 2 ≡ 1 = omega (arith, second.0) in z) ∙ sym second.1)
+        ])
+      ];
       watched = λ p s is. elim (cases_lt (s / 2) n) [
-          inl lt ↦ put_old one' b (2 * n + 1) p s (put_old chains a (2 * n) p s (w.watched p s (watch_back C (a ∷ b ∷ ls) p s lt is)))
+        | inl lt ↦ put_old one' b (2 * n + 1) p s (put_old chains a (2 * n) p s (w.watched p s (watch_back C (a ∷ b ∷ ls) p s lt is)))
         | inr ge ↦ (let m = length-append C ((a ∷ b ∷ ls) ∷ []) in let same : s / 2 ≡ n = omega (arith, ge, m, is.known) in
             let e : get_or (C ++ (a ∷ b ∷ ls) ∷ []) (s / 2) [] ≡ a ∷ b ∷ ls = get_or_at C (a ∷ b ∷ ls) [] [] (s / 2) (sym same) in
             let sees : get_or (a ∷ b ∷ ls) (s % 2) 0 ≡ p = sym (ap (λ (c : List ℕ). get_or c (s % 2) 0) e) ∙ is.at in
             let P : ℕ → Type 0 = λ q. Contains (chain_at (put_first one' b (2 * n + 1)) q) s in
             elim (cases_eq (s % 2) 0) [
-              inl zero' ↦ (let here : a ≡ p = sym (ap (λ i. get_or (a ∷ b ∷ ls) i 0) zero') ∙ sees in
-                let Q : ℕ → Type 0 = λ u. Contains (chain_at (put_first one' b (2 * n + 1)) a) u in
-                subst P here (subst Q (let z : 2 * n ≡ s = omega (arith, same, zero') in z) (put_old one' b (2 * n + 1) a (2 * n) (put_new chains a (2 * n) la))))
-            | inr odd ↦ (let one'' : s % 2 ≡ 1 = omega (arith, odd) in let here : b ≡ p = sym (ap (λ i. get_or (a ∷ b ∷ ls) i 0) one'') ∙ sees in
-                let Q : ℕ → Type 0 = λ u. Contains (chain_at (put_first one' b (2 * n + 1)) b) u in
-                subst P here (subst Q (let z : 2 * n + 1 ≡ s = omega (arith, same, one'') in z) (put_new one' b (2 * n + 1) lb)))
+              | inl zero' ↦ (let here : a ≡ p = sym (ap (λ i. get_or (a ∷ b ∷ ls) i 0) zero') ∙ sees in
+                  let Q : ℕ → Type 0 = λ u. Contains (chain_at (put_first one' b (2 * n + 1)) a) u in
+                  subst P here (subst Q (let z : 2 * n ≡ s = omega (arith, same, zero') in z) (put_old one' b (2 * n + 1) a (2 * n) (put_new chains a (2 * n) la))))
+              | inr odd ↦ (let one'' : s % 2 ≡ 1 = omega (arith, odd) in let here : b ≡ p = sym (ap (λ i. get_or (a ∷ b ∷ ls) i 0) one'') ∙ sees in
+                  let Q : ℕ → Type 0 = λ u. Contains (chain_at (put_first one' b (2 * n + 1)) b) u in
+                  subst P here (subst Q (let z : 2 * n + 1 ≡ s = omega (arith, same, one'') in z) (put_new one' b (2 * n + 1) lb)))
             ])
-        ];
+      ];
     }
 
 put_size : (chains : List (List ℕ)) (g u : ℕ) → length (put_first chains g u) ≡ length chains
@@ -196,14 +199,14 @@ both_size chains n (a ∷ b ∷ ls) = put_size (put_first chains a (2 * n)) b (2
 
 put_at' : (chains : List (List ℕ)) (g u p s : ℕ) → s ≢ u → Contains (chain_at (put_first chains g u) p) s → Contains (chain_at chains p) s
 put_at' chains g u p s ne has = elim (cases_lt g (length chains)) [
-      inl lt ↦ (elim (cases_eq p g) [
-          inl same ↦ (let P : List ℕ → Type 0 = λ xs. Contains xs s in
-            let there : Contains (u ∷ chain_at chains g) s = subst P (ap (chain_at (put_first chains g u)) same ∙ get_or-set_same chains g (u ∷ chain_at chains g) [] lt) has in
-            let Q : ℕ → Type 0 = λ q. Contains (chain_at chains q) s in subst Q (sym same) (tail_of u s (chain_at chains g) ne there))
-        | inr other ↦ (let P : List ℕ → Type 0 = λ xs. Contains xs s in subst P (get_or-set_other chains g p (u ∷ chain_at chains g) [] other) has)
-        ])
-    | inr past ↦ (let P : List (List ℕ) → Type 0 = λ cs. Contains (chain_at cs p) s in subst P (set_past chains g (u ∷ chain_at chains g) past) has)
-    ]
+  | inl lt ↦ (elim (cases_eq p g) [
+    | inl same ↦ (let P : List ℕ → Type 0 = λ xs. Contains xs s in
+        let there : Contains (u ∷ chain_at chains g) s = subst P (ap (chain_at (put_first chains g u)) same ∙ get_or-set_same chains g (u ∷ chain_at chains g) [] lt) has in
+        let Q : ℕ → Type 0 = λ q. Contains (chain_at chains q) s in subst Q (sym same) (tail_of u s (chain_at chains g) ne there))
+    | inr other ↦ (let P : List ℕ → Type 0 = λ xs. Contains xs s in subst P (get_or-set_other chains g p (u ∷ chain_at chains g) [] other) has)
+  ])
+  | inr past ↦ (let P : List (List ℕ) → Type 0 = λ cs. Contains (chain_at cs p) s in subst P (set_past chains g (u ∷ chain_at chains g) past) has)
+]
   where
     tail_of : (x s : ℕ) (xs : List ℕ) → s ≢ x → Contains (x ∷ xs) s → Contains xs s
     tail_of x s xs ne (zero, lt, e) = absurd (ne (sym e))
@@ -220,10 +223,10 @@ covers_added {L} at C chains x t h can rest =
       trail = h.trail;
       watches = watches_added C chains x h.watches (subst P (sym h.size) can.inside);
       covered = λ k lk s known long f away.
-        (let D : List ℕ → Type 0 = λ c. 2 ≤ length c → is_false (places at (cut t.entries k)) (get_or c (s % 2) 0) ≡ true → is_false (places at (cut (waiting t) k)) (get_or c (s % 2) 0) ≡ false
-            → HasTrue (places at (cut t.entries k)) c ⊎ (AllBut (places at (cut t.entries k)) (places at (cut (waiting t) k)) c (get_or c (1 - s % 2) 0) × (false ≡ true → is_false (places at (cut (waiting t) k)) (get_or c (1 - s % 2) 0) ≡ true)) in
-        let W : List (Entry L) → Type 0 = λ es. AllBut (places at (cut t.entries k)) (places at (cut es k)) x (get_or x (1 - s % 2) 0) in
-        row_cases C x (s / 2) D (λ lt. h.covered k lk s lt) (λ same long' f' away'. inr (subst W (sym rest) (new_covered at t x k (s % 2) can long' (omega arith) f'), λ e. absurd (false≢true e))) (λ long' f' away'. absurd (omega (arith, long'))) long f away);
+          (let D : List ℕ → Type 0 = λ c. 2 ≤ length c → is_false (places at (cut t.entries k)) (get_or c (s % 2) 0) ≡ true → is_false (places at (cut (waiting t) k)) (get_or c (s % 2) 0) ≡ false
+          → HasTrue (places at (cut t.entries k)) c ⊎ (AllBut (places at (cut t.entries k)) (places at (cut (waiting t) k)) c (get_or c (1 - s % 2) 0) × (false ≡ true → is_false (places at (cut (waiting t) k)) (get_or c (1 - s % 2) 0) ≡ true)) in
+          let W : List (Entry L) → Type 0 = λ es. AllBut (places at (cut t.entries k)) (places at (cut es k)) x (get_or x (1 - s % 2) 0) in
+          row_cases C x (s / 2) D (λ lt. h.covered k lk s lt) (λ same long' f' away'. inr (subst W (sym rest) (new_covered at t x k (s % 2) can long' (omega arith) f'), λ e. absurd (false≢true e))) (λ long' f' away'. absurd (omega (arith, long'))) long f away);
       inside = λ c l. row_cases C x c (λ xs. Contains xs l → l < 2 * t.variables) (λ lt. h.inside c l) (λ same has. All-contains (λ l. l < 2 * t.variables) x l can.inside has) (λ has. absurd (omega (arith, has.1)));
       distinct = λ c. row_cases C x c (λ xs. IsDistinct (λ x y. x == y) xs) (λ lt. h.distinct c) (λ same. IsDistinct-from_apart (λ x y. x == y) x (λ i j d lij lj. not_eqb (get_or x i d) (get_or x j d) (λ e. can.apart i j lij lj (ap (λ n. n / 2) (sym (get_or_default x i d 0 (omega (arith, lij, lj))) ∙ e ∙ get_or_default x j d 0 lj))))) tt;
       size = both_size chains (length C) x ∙ h.size;
@@ -250,9 +253,9 @@ some_open : (now xs : List ℕ) (j : ℕ) → j < length xs → is_false now (ge
 some_open now [] j lt o = absurd (omega (arith, lt))
 some_open now (y ∷ ys) zero lt o = (let n = ap length (head_open now y ys o) in omega (arith, n))
 some_open now (y ∷ ys) (suc j) lt o = elim (either_of (is_false now y)) [
-      inl e ↦ (let n = ap length (head_shut now y ys e) in let m = some_open now ys j (omega (arith, lt)) o in omega (arith, n, m))
-    | inr e ↦ (let n = ap length (head_open now y ys e) in omega (arith, n))
-    ]
+  | inl e ↦ (let n = ap length (head_shut now y ys e) in let m = some_open now ys j (omega (arith, lt)) o in omega (arith, n, m))
+  | inr e ↦ (let n = ap length (head_open now y ys e) in omega (arith, n))
+]
 
 pub stands_more : (now : List ℕ) (x : ℕ) (xs : List ℕ) (j : ℕ) → is_false now x ≡ false → j < length xs → is_false now (get_or xs j 0) ≡ false → Free ≡ standing_of now (x ∷ xs)
 stands_more now x xs j f lt o = go (open_literals now xs) (some_open now xs j lt o) ∙ sym (ap (standing_open now) (head_open now x xs f)) where
@@ -312,6 +315,6 @@ clause_short n c inside apart =
     let size : length xs ≡ length c = length-map c (λ l. l / 2) in
     let read : (i : ℕ) → i < length xs → get_or xs i 0 ≡ get_or c i 0 / 2 = λ i h. get_or-map (λ l. l / 2) c i 0 0 (omega (arith, h, size)) in
     let short : length xs ≤ n = length-le_from_distinct_below xs n
-      (distinct_from xs (λ i j lij lj e. apart i j lij (omega (arith, lj, size)) (sym (read i (omega (arith, lij, lj))) ∙ e ∙ read j lj)))
-      (λ q. below_any xs n q (λ i h. (let a = inside i 0 (omega (arith, h, size)) in let r = read i h in omega (arith, a, r)))) in
+    (distinct_from xs (λ i j lij lj e. apart i j lij (omega (arith, lj, size)) (sym (read i (omega (arith, lij, lj))) ∙ e ∙ read j lj)))
+    (λ q. below_any xs n q (λ i h. (let a = inside i 0 (omega (arith, h, size)) in let r = read i h in omega (arith, a, r)))) in
     omega (arith, short, size)

@@ -41,16 +41,16 @@ read_none set values x v trues falses e one two =
 pub opposite_is : (a b v w : ℕ) → (a ≡ 2 * v) ⊎ (a ≡ 2 * v + 1) → (b ≡ 2 * w) ⊎ (b ≡ 2 * w + 1) → w ≡ v → b ≢ a → b ≡ opposite_place a
 opposite_is a b v w pa pb same ne =
     elim (eqb_tells (a % 2) 0) [
-      inl even ↦ (let up : opposite_place a ≡ a + 1 = ap (λ t. cond t (a + 1) (a - 1)) even.0 in
-        elim pa [
-          inl a0 ↦ (elim pb [ inl b0 ↦ absurd (ne (omega (arith, a0, b0, same))) | inr b1 ↦ omega (arith, a0, b1, same, up) ])
-        | inr a1 ↦ absurd (omega (arith, a1, even.1))
-        ])
-    | inr odd ↦ (let down : opposite_place a ≡ a - 1 = ap (λ t. cond t (a + 1) (a - 1)) odd.0 in
-        elim pa [
-          inl a0 ↦ absurd (odd.1 (omega (arith, a0)))
-        | inr a1 ↦ (elim pb [ inl b0 ↦ omega (arith, a1, b0, same, down) | inr b1 ↦ absurd (ne (omega (arith, a1, b1, same))) ])
-        ])
+      | inl even ↦ (let up : opposite_place a ≡ a + 1 = ap (λ t. cond t (a + 1) (a - 1)) even.0 in
+          elim pa [
+            | inl a0 ↦ (elim pb [ inl b0 ↦ absurd (ne (omega (arith, a0, b0, same))) | inr b1 ↦ omega (arith, a0, b1, same, up) ])
+            | inr a1 ↦ absurd (omega (arith, a1, even.1))
+          ])
+      | inr odd ↦ (let down : opposite_place a ≡ a - 1 = ap (λ t. cond t (a + 1) (a - 1)) odd.0 in
+          elim pa [
+            | inl a0 ↦ absurd (odd.1 (omega (arith, a0)))
+            | inr a1 ↦ (elim pb [ inl b0 ↦ omega (arith, a1, b0, same, down) | inr b1 ↦ absurd (ne (omega (arith, a1, b1, same))) ])
+          ])
     ]
 
 pub twice : (a : ℕ) → opposite_place (opposite_place a) ≡ a
@@ -58,18 +58,18 @@ twice a = grind (arith, nat_tests)
 
 pub opposite_ne : (a : ℕ) → opposite_place a ≢ a
 opposite_ne a e = elim (eqb_tells (a % 2) 0) [
-      inl even ↦ (let up : opposite_place a ≡ a + 1 = ap (λ t. cond t (a + 1) (a - 1)) even.0 in omega (arith, up, e))
-    | inr odd ↦ (let down : opposite_place a ≡ a - 1 = ap (λ t. cond t (a + 1) (a - 1)) odd.0 in odd.1 (omega (arith, down, e)))
-    ]
+  | inl even ↦ (let up : opposite_place a ≡ a + 1 = ap (λ t. cond t (a + 1) (a - 1)) even.0 in omega (arith, up, e))
+  | inr odd ↦ (let down : opposite_place a ≡ a - 1 = ap (λ t. cond t (a + 1) (a - 1)) odd.0 in odd.1 (omega (arith, down, e)))
+]
 
 same_variable : (a b : ℕ) → a / 2 ≡ b / 2 → (a ≡ b) ⊎ (a ≡ opposite_place b)
 same_variable a b h = elim (cases_eq a b) [
-      inl same ↦ inl same
-    | inr other ↦ inr (elim (eqb_tells (b % 2) 0) [
-          inl even ↦ (let up : opposite_place b ≡ b + 1 = ap (λ t. cond t (b + 1) (b - 1)) even.0 in omega (arith, up, even.1, h, other))
-        | inr odd ↦ (let down : opposite_place b ≡ b - 1 = ap (λ t. cond t (b + 1) (b - 1)) odd.0 in omega (arith, down, odd.1, h, other))
-        ])
-    ]
+  | inl same ↦ inl same
+  | inr other ↦ inr (elim (eqb_tells (b % 2) 0) [
+    | inl even ↦ (let up : opposite_place b ≡ b + 1 = ap (λ t. cond t (b + 1) (b - 1)) even.0 in omega (arith, up, even.1, h, other))
+    | inr odd ↦ (let down : opposite_place b ≡ b - 1 = ap (λ t. cond t (b + 1) (b - 1)) odd.0 in omega (arith, down, odd.1, h, other))
+  ])
+]
 
 pub value_none : (set : List ℕ) (x : ℕ) → value_of set x ≡ None → (is_true set x ≡ false) × (is_false set x ≡ false)
 value_none set x h = cases (is_true set x) (is_false set x) h where
@@ -112,7 +112,7 @@ kept_assign {L} at values marks order capacity capacity' taken q l m k lt eq fre
       sizes = simp length-set k.sizes;
       inside = λ i d h. (let old = All-push (λ x. at x < length values) order l k.inside lt i d h in omega (arith, old, size));
       apart = λ i j d lij h. elim (cases_lt j (length order)) [
-          inl old ↦ (let a = get_or_append_left order (l ∷ []) d i (omega (arith, lij, old)) in let b = get_or_append_left order (l ∷ []) d j old in
+        | inl old ↦ (let a = get_or_append_left order (l ∷ []) d i (omega (arith, lij, old)) in let b = get_or_append_left order (l ∷ []) d j old in
             λ e. k.apart i j d lij old (sym (ap (λ x. at x / 2) a) ∙ e ∙ ap (λ x. at x / 2) b))
         | inr new ↦ (let top : j ≡ length order = omega (arith, new, h, length-append order (l ∷ [])) in
             let li : i < length order = omega (arith, lij, top) in
@@ -122,40 +122,40 @@ kept_assign {L} at values marks order capacity capacity' taken q l m k lt eq fre
             let is : get_or xs i (at d) ≡ y = get_or-map at order i d (at d) li in
             let has : is_true xs y ≡ true = ap (is_true xs) (sym is) ∙ member_true xs i (at d) (simp length-map li) in
             λ e. elim (same_variable y p (sym (ap (λ x. at x / 2) a) ∙ e ∙ ap (λ x. at x / 2) b)) [
-              inl same ↦ false≢true (sym out.0 ∙ ap (is_true xs) (sym same) ∙ has)
-            | inr other ↦ false≢true (sym out.1 ∙ ap (is_true xs) (sym other) ∙ has)
+              | inl same ↦ false≢true (sym out.0 ∙ ap (is_true xs) (sym same) ∙ has)
+              | inr other ↦ false≢true (sym out.1 ∙ ap (is_true xs) (sym other) ∙ has)
             ])
-        ];
+      ];
       trues = λ x h. (let hx : x < length values = omega (arith, h, size) in
-        elim (cases_eq x q) [
-          inl isq ↦ (let v : get_or values' x 0 ≡ 2 = ap (λ j. get_or values' j 0) isq ∙ get_or-set_same (set values p 1) q 2 0 (simp length-set (omega (arith, isq, hx))) in
-            let no : is_true xs x ≡ false = ap (is_true xs) (isq ∙ eq) ∙ out.1 in
-            let ne : (p == x) ≡ false = not_eqb p x (λ e. qne (sym isq ∙ sym e)) in
-            ap (λ n. n == 1) v ∙ sym (ap (λ s. is_true s x) grown ∙ more_true xs p x ∙ ap (λ b. is_true xs x || (b || false)) ne ∙ or_none (is_true xs x) ∙ no))
-        | inr notq ↦ (let v1 : get_or values' x 0 ≡ get_or (set values p 1) x 0 = get_or-set_other (set values p 1) q x 2 0 notq in
-            elim (cases_eq x p) [
-              inl isp ↦ (let v : get_or (set values p 1) x 0 ≡ 1 = ap (λ j. get_or (set values p 1) j 0) isp ∙ get_or-set_same values p 1 0 lt in
-                ap (λ n. n == 1) (v1 ∙ v) ∙ sym (ap (λ s. is_true s x) grown ∙ more_true xs p x ∙ ap (λ b. is_true xs x || (b || false)) (eq-eqb p x (sym isp)) ∙ or_true (is_true xs x)))
-            | inr notp ↦ (let v : get_or (set values p 1) x 0 ≡ get_or values x 0 = get_or-set_other values p x 1 0 notp in
-                ap (λ n. n == 1) (v1 ∙ v) ∙ k.trues x hx ∙ sym (ap (λ s. is_true s x) grown ∙ more_true xs p x ∙ ap (λ b. is_true xs x || (b || false)) (not_eqb p x (λ e. notp (sym e))) ∙ or_none (is_true xs x)))
-            ])
-        ]);
+          elim (cases_eq x q) [
+            | inl isq ↦ (let v : get_or values' x 0 ≡ 2 = ap (λ j. get_or values' j 0) isq ∙ get_or-set_same (set values p 1) q 2 0 (simp length-set (omega (arith, isq, hx))) in
+                let no : is_true xs x ≡ false = ap (is_true xs) (isq ∙ eq) ∙ out.1 in
+                let ne : (p == x) ≡ false = not_eqb p x (λ e. qne (sym isq ∙ sym e)) in
+                ap (λ n. n == 1) v ∙ sym (ap (λ s. is_true s x) grown ∙ more_true xs p x ∙ ap (λ b. is_true xs x || (b || false)) ne ∙ or_none (is_true xs x) ∙ no))
+            | inr notq ↦ (let v1 : get_or values' x 0 ≡ get_or (set values p 1) x 0 = get_or-set_other (set values p 1) q x 2 0 notq in
+                elim (cases_eq x p) [
+                  | inl isp ↦ (let v : get_or (set values p 1) x 0 ≡ 1 = ap (λ j. get_or (set values p 1) j 0) isp ∙ get_or-set_same values p 1 0 lt in
+                      ap (λ n. n == 1) (v1 ∙ v) ∙ sym (ap (λ s. is_true s x) grown ∙ more_true xs p x ∙ ap (λ b. is_true xs x || (b || false)) (eq-eqb p x (sym isp)) ∙ or_true (is_true xs x)))
+                  | inr notp ↦ (let v : get_or (set values p 1) x 0 ≡ get_or values x 0 = get_or-set_other values p x 1 0 notp in
+                      ap (λ n. n == 1) (v1 ∙ v) ∙ k.trues x hx ∙ sym (ap (λ s. is_true s x) grown ∙ more_true xs p x ∙ ap (λ b. is_true xs x || (b || false)) (not_eqb p x (λ e. notp (sym e))) ∙ or_none (is_true xs x)))
+                ])
+          ]);
       falses = λ x h. (let hx : x < length values = omega (arith, h, size) in
-        let ox : ℕ = opposite_place x in
-        elim (cases_eq x q) [
-          inl isq ↦ (let v : get_or values' x 0 ≡ 2 = ap (λ j. get_or values' j 0) isq ∙ get_or-set_same (set values p 1) q 2 0 (simp length-set (omega (arith, isq, hx))) in
-            let back : p ≡ ox = sym (ap opposite_place (isq ∙ eq) ∙ twice p) in
-            ap (λ n. n == 2) v ∙ sym (ap (λ s. is_true s ox) grown ∙ more_true xs p ox ∙ ap (λ b. is_true xs ox || (b || false)) (eq-eqb p ox back) ∙ or_true (is_true xs ox)))
-        | inr notq ↦ (let v1 : get_or values' x 0 ≡ get_or (set values p 1) x 0 = get_or-set_other (set values p 1) q x 2 0 notq in
-            let ne : (p == ox) ≡ false = not_eqb p ox (λ e. notq (sym (twice x) ∙ sym (ap opposite_place e) ∙ sym eq)) in
-            elim (cases_eq x p) [
-              inl isp ↦ (let v : get_or (set values p 1) x 0 ≡ 1 = ap (λ j. get_or (set values p 1) j 0) isp ∙ get_or-set_same values p 1 0 lt in
-                let no : is_true xs ox ≡ false = ap (is_false xs) isp ∙ out.1 in
-                ap (λ n. n == 2) (v1 ∙ v) ∙ sym (ap (λ s. is_true s ox) grown ∙ more_true xs p ox ∙ ap (λ b. is_true xs ox || (b || false)) ne ∙ or_none (is_true xs ox) ∙ no))
-            | inr notp ↦ (let v : get_or (set values p 1) x 0 ≡ get_or values x 0 = get_or-set_other values p x 1 0 notp in
-                ap (λ n. n == 2) (v1 ∙ v) ∙ k.falses x hx ∙ sym (ap (λ s. is_true s ox) grown ∙ more_true xs p ox ∙ ap (λ b. is_true xs ox || (b || false)) ne ∙ or_none (is_true xs ox)))
-            ])
-        ]);
+          let ox : ℕ = opposite_place x in
+          elim (cases_eq x q) [
+            | inl isq ↦ (let v : get_or values' x 0 ≡ 2 = ap (λ j. get_or values' j 0) isq ∙ get_or-set_same (set values p 1) q 2 0 (simp length-set (omega (arith, isq, hx))) in
+                let back : p ≡ ox = sym (ap opposite_place (isq ∙ eq) ∙ twice p) in
+                ap (λ n. n == 2) v ∙ sym (ap (λ s. is_true s ox) grown ∙ more_true xs p ox ∙ ap (λ b. is_true xs ox || (b || false)) (eq-eqb p ox back) ∙ or_true (is_true xs ox)))
+            | inr notq ↦ (let v1 : get_or values' x 0 ≡ get_or (set values p 1) x 0 = get_or-set_other (set values p 1) q x 2 0 notq in
+                let ne : (p == ox) ≡ false = not_eqb p ox (λ e. notq (sym (twice x) ∙ sym (ap opposite_place e) ∙ sym eq)) in
+                elim (cases_eq x p) [
+                  | inl isp ↦ (let v : get_or (set values p 1) x 0 ≡ 1 = ap (λ j. get_or (set values p 1) j 0) isp ∙ get_or-set_same values p 1 0 lt in
+                      let no : is_true xs ox ≡ false = ap (is_false xs) isp ∙ out.1 in
+                      ap (λ n. n == 2) (v1 ∙ v) ∙ sym (ap (λ s. is_true s ox) grown ∙ more_true xs p ox ∙ ap (λ b. is_true xs ox || (b || false)) ne ∙ or_none (is_true xs ox) ∙ no))
+                  | inr notp ↦ (let v : get_or (set values p 1) x 0 ≡ get_or values x 0 = get_or-set_other values p x 1 0 notp in
+                      ap (λ n. n == 2) (v1 ∙ v) ∙ k.falses x hx ∙ sym (ap (λ s. is_true s ox) grown ∙ more_true xs p ox ∙ ap (λ b. is_true xs ox || (b || false)) ne ∙ or_none (is_true xs ox)))
+                ])
+          ]);
       room = simp length-set (omega (arith, k.room, wide));
       within = (let more = length-append order (l ∷ []) in omega (arith, k.within, more));
     }
@@ -163,18 +163,19 @@ kept_assign {L} at values marks order capacity capacity' taken q l m k lt eq fre
 pub distinct_from : (xs : List ℕ) → ((i j : ℕ) → i < j → j < length xs → get_or xs i 0 ≢ get_or xs j 0) → IsDistinct eqb xs
 unfolding IsDistinct
 distinct_from [] h = tt
-distinct_from (x ∷ xs) h =
-    (recursion_from_All (λ y. eqb x y ≡ false) xs (λ k d lt.
+distinct_from (x ∷ xs) h = (
+  recursion_from_All (λ y. eqb x y ≡ false) xs (λ k d lt.
       let apart : x ≢ get_or xs k 0 = h 0 (suc k) (omega arith) (omega (arith, lt)) in
       elim (eqb_tells x (get_or xs k d)) [ inl same ↦ absurd (apart (same.1 ∙ get_or_default xs k d 0 lt)) | inr other ↦ other.0 ]),
-    distinct_from xs (λ i j lt le. h (suc i) (suc j) (omega (arith, lt)) (omega (arith, le))))
+  distinct_from xs (λ i j lt le. h (suc i) (suc j) (omega (arith, lt)) (omega (arith, le))),
+)
 
 pub below_any : (xs : List ℕ) (n q : ℕ) → ((i : ℕ) → i < length xs → get_or xs i 0 < n) → list_any (eqb q) xs ≡ true → q < n
 below_any [] n q within some = absurd (false≢true some)
 below_any (x ∷ xs) n q within some =
     elim (eqb_tells q x) [
-      inl same ↦ (let lt : x < n = within 0 (omega arith) in omega (arith, lt, same.1))
-    | inr other ↦ below_any xs n q (λ i lt. within (suc i) (omega (arith, lt))) (sym (ap (λ b. b || list_any (eqb q) xs) other.0) ∙ some)
+      | inl same ↦ (let lt : x < n = within 0 (omega arith) in omega (arith, lt, same.1))
+      | inr other ↦ below_any xs n q (λ i lt. within (suc i) (omega (arith, lt))) (sym (ap (λ b. b || list_any (eqb q) xs) other.0) ∙ some)
     ]
 
 -- no more literals are true than there are variables
@@ -184,8 +185,8 @@ order_short at values marks order capacity taken d k =
     let size : length xs ≡ length order = length-map order (λ l. at l / 2) in
     let read : (i : ℕ) → i < length xs → get_or xs i 0 ≡ at (get_or order i d) / 2 = λ i h. get_or-map (λ l. at l / 2) order i d 0 (omega (arith, h, size)) in
     let short : length xs ≤ length marks = length-le_from_distinct_below xs (length marks)
-      (distinct_from xs (λ i j lij lj e. k.apart i j d lij (omega (arith, lj, size)) (sym (read i (omega (arith, lij, lj))) ∙ e ∙ read j lj)))
-      (λ q. below_any xs (length marks) q (λ i h. (let a = k.inside i d (omega (arith, h, size)) in let r = read i h in omega (arith, a, r, k.sizes)))) in
+    (distinct_from xs (λ i j lij lj e. k.apart i j d lij (omega (arith, lj, size)) (sym (read i (omega (arith, lij, lj))) ∙ e ∙ read j lj)))
+    (λ q. below_any xs (length marks) q (λ i h. (let a = k.inside i d (omega (arith, h, size)) in let r = read i h in omega (arith, a, r, k.sizes)))) in
     omega (arith, short, size)
 
 -- the mark of another variable changes no entry
@@ -206,13 +207,13 @@ entries_more {L} at values marks order capacity taken l m k lt free =
     let last : get_or (set marks (at l / 2) m) (at l / 2) blank ≡ m = get_or-set_same marks (at l / 2) m blank inside in
     map-append (entry_of at (set marks (at l / 2) m)) order (l ∷ []) ∙ ap (λ e. entries_of at (set marks (at l / 2) m) order ++ e ∷ []) (ap (λ (x : Mark). record { literal = l; level = x.level; reason = reason_of x.reason }) last)
     ∙ ap (λ es. es ++ record { literal = l; level = m.level; reason = reason_of m.reason } ∷ []) (same_entries at marks order (at l) m (λ i d h e.
-        let y : ℕ = at (get_or order i d) in
-        let is : get_or (map at order) i (at d) ≡ y = get_or-map at order i d (at d) h in
-        let has : is_true (map at order) y ≡ true = ap (is_true (map at order)) (sym is) ∙ member_true (map at order) i (at d) (simp length-map h) in
-        elim (same_variable y (at l) e) [
-          inl same ↦ false≢true (sym out.0 ∙ ap (is_true (map at order)) (sym same) ∙ has)
-        | inr other ↦ false≢true (sym out.1 ∙ ap (is_true (map at order)) (sym other) ∙ has)
-        ]))
+    let y : ℕ = at (get_or order i d) in
+    let is : get_or (map at order) i (at d) ≡ y = get_or-map at order i d (at d) h in
+    let has : is_true (map at order) y ≡ true = ap (is_true (map at order)) (sym is) ∙ member_true (map at order) i (at d) (simp length-map h) in
+    elim (same_variable y (at l) e) [
+      | inl same ↦ false≢true (sym out.0 ∙ ap (is_true (map at order)) (sym same) ∙ has)
+      | inr other ↦ false≢true (sym out.1 ∙ ap (is_true (map at order)) (sym other) ∙ has)
+    ]))
 
 pub course_set : {L : Type 0} (at : L → ℕ) (marks : List Mark) (order : List L) (entries : List (Entry L)) → entries_of at marks order ≡ entries → map at order ≡ places at entries
 course_set at marks order entries e = sym (places_are at marks order) ∙ ap (places at) e
@@ -243,9 +244,10 @@ course_assigned {L} at values marks order order' capacity capacity' taken place 
     let inside : at l < length values = omega (arith, lt, size, k.sizes) in
     let open' : value_of (map at order) (at l) ≡ None = ap (λ s. value_of s (at l)) (course_set at marks order entries e) ∙ free in
     let P : ℕ → Type 0 = λ x. IsKept at (set (set values x 1) q 2) (set marks (x / 2) m) (order ++ l ∷ []) capacity' taken in
-    let Q : List L → Type 0 = λ o. IsKept at (set (set values place 1) q 2) (set marks (place / 2) m) o capacity' taken in
-    (subst Q (sym grown) (subst P (sym same) (kept_assign at values marks order capacity capacity' taken q l m k inside eq open' wide)),
-     ap (entries_of at (set marks (place / 2) m)) grown ∙ ap (λ x. entries_of at (set marks (x / 2) m) (order ++ l ∷ [])) same ∙ entries_more at values marks order capacity taken l m k inside open' ∙ ap (λ es. es ++ record { literal = l; level = m.level; reason = reason_of m.reason } ∷ []) e)
+    let Q : List L → Type 0 = λ o. IsKept at (set (set values place 1) q 2) (set marks (place / 2) m) o capacity' taken in (
+      subst Q (sym grown) (subst P (sym same) (kept_assign at values marks order capacity capacity' taken q l m k inside eq open' wide)),
+      ap (entries_of at (set marks (place / 2) m)) grown ∙ ap (λ x. entries_of at (set marks (x / 2) m) (order ++ l ∷ [])) same ∙ entries_more at values marks order capacity taken l m k inside open' ∙ ap (λ es. es ++ record { literal = l; level = m.level; reason = reason_of m.reason } ∷ []) e,
+    )
 
 -- there is room for one more literal
 pub course_room : {L : Type 0} (at : L → ℕ) (values : List ℕ) (marks : List Mark) (order : List L) (capacity taken n : ℕ) (l : L) (entries : List (Entry L)) → IsKept at values marks order capacity taken → entries_of at marks order ≡ entries → length marks ≡ n → at l < 2 * n → value_of (places at entries) (at l) ≡ None → length order < capacity

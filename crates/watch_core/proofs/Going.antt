@@ -23,12 +23,12 @@ use Rattle.watch_core.proofs.Cover.{true_or_false, covered_more, covered_taken, 
 pub cut_true : {L : Type 0} (at : L → ℕ) (es : List (Entry L)) (k l : ℕ) → is_true (places at (cut es k)) l ≡ true → is_true (places at es) l ≡ true
 cut_true at [] k l h = h
 cut_true {L} at (e ∷ es) k l h = elim (leb_tells e.level k) [
-      inl low ↦ elim (eqb_tells (at e.literal) l) [
-          inl same ↦ ap (λ b. b || is_true (places at es) l) same.0
-        | inr other ↦ ap (λ b. b || is_true (places at es) l) other.0 ∙ cut_true at es k l (sym (ap (λ (xs : List (Entry L)). is_true (places at xs) l) (kept_in e es k low.1) ∙ ap (λ b. b || is_true (places at (cut es k)) l) other.0) ∙ h)
-        ]
-    | inr high ↦ or_right (at e.literal == l) (is_true (places at es) l) (cut_true at es k l (sym (ap (λ (xs : List (Entry L)). is_true (places at xs) l) (left_out e es k high.1)) ∙ h))
-    ]
+  | inl low ↦ elim (eqb_tells (at e.literal) l) [
+    | inl same ↦ ap (λ b. b || is_true (places at es) l) same.0
+    | inr other ↦ ap (λ b. b || is_true (places at es) l) other.0 ∙ cut_true at es k l (sym (ap (λ (xs : List (Entry L)). is_true (places at xs) l) (kept_in e es k low.1) ∙ ap (λ b. b || is_true (places at (cut es k)) l) other.0) ∙ h)
+  ]
+  | inr high ↦ or_right (at e.literal == l) (is_true (places at es) l) (cut_true at es k l (sym (ap (λ (xs : List (Entry L)). is_true (places at xs) l) (left_out e es k high.1)) ∙ h))
+]
   where
     or_right : (a b : Bool) → b ≡ true → (a || b) ≡ true
     or_right true b h = refl
@@ -47,11 +47,11 @@ only_swapped clauses n a b ln la lb =
     record {
       count = length-set clauses n (swap xs a b);
       same = λ c. elim (cases_eq c n) [
-          inl same ↦ (let Q : ℕ → Type 0 = λ i. IsPermutation (get_or clauses i []) (get_or (set clauses n (swap xs a b)) i []) in
+        | inl same ↦ (let Q : ℕ → Type 0 = λ i. IsPermutation (get_or clauses i []) (get_or (set clauses n (swap xs a b)) i []) in
             subst Q (sym same) (subst P (sym (get_or-set_same clauses n (swap xs a b) [] ln)) (IsPermutation-swap xs (swap xs a b) a b la lb refl)))
         | inr other ↦ (let R : List ℕ → Type 0 = λ ys. IsPermutation (get_or clauses c []) ys in
             subst R (sym (get_or-set_other clauses n c (swap xs a b) [] other)) (IsPermutation-refl (get_or clauses c [])))
-        ];
+      ];
     }
 
 pub only_trans : (a b c : List (List ℕ)) → AreReordered a b → AreReordered b c → AreReordered a c
@@ -59,9 +59,9 @@ only_trans a b c x y = record { count = y.count ∙ x.count; same = λ i. IsPerm
 
 eqb_flips : (x y : ℕ) → (x == y) ≡ (y == x)
 eqb_flips x y = elim (eqb_tells x y) [
-      inl same ↦ same.0 ∙ sym (eq-eqb y x (sym same.1))
-    | inr other ↦ other.0 ∙ sym (not_eqb y x (λ e. other.1 (sym e)))
-    ]
+  | inl same ↦ same.0 ∙ sym (eq-eqb y x (sym same.1))
+  | inr other ↦ other.0 ∙ sym (not_eqb y x (λ e. other.1 (sym e)))
+]
 
 -- a seat moves to a literal that is not false
 pub covers_moved : {L : Type 0} (strong : Bool) (at : L → ℕ) (clauses chains : List (List ℕ)) (t : Assignment L) (s j g : ℕ) → IsCovered strong at clauses chains t → s / 2 < length clauses → 2 ≤ j → j < length (clause_of clauses s) → g ≡ get_or (clause_of clauses s) j 0
@@ -104,7 +104,7 @@ covers_entered {L} strong at clauses chains t l k r h trail free step =
       trail = trail;
       watches = h.watches;
       covered = λ q lq. elim (cases_lt q k) [
-          inl less ↦ (let lq' : q ≤ t.level = elim step [ inl a ↦ omega (arith, a, less) | inr a ↦ omega (arith, a, less) ] in
+        | inl less ↦ (let lq' : q ≤ t.level = elim step [ inl a ↦ omega (arith, a, less) | inr a ↦ omega (arith, a, less) ] in
             let P : List (Entry L) → Type 0 = λ es. AllCovered strong (places at es) (places at (cut (waiting t') q)) clauses in
             let Q : List (Entry L) → Type 0 = λ es. AllCovered strong (places at (cut t.entries q)) (places at es) clauses in
             subst P (sym (push_above t.entries e q less)) (subst Q (sym (ap (λ (es : List (Entry L)). cut es q) waits ∙ push_above (waiting t) e q less)) (h.covered q lq')))
@@ -112,9 +112,9 @@ covers_entered {L} strong at clauses chains t l k r h trail free step =
             let P : List ℕ → Type 0 = λ xs. AllCovered strong xs (places at (cut (waiting t') q)) clauses in
             let Q : List ℕ → Type 0 = λ xs. AllCovered strong (places at (cut t.entries t.level) ++ at l ∷ []) xs clauses in
             subst P (sym (push_top at t.entries e q t.level lk (omega (arith, lk, up)) below))
-              (subst Q (sym (ap (λ (es : List (Entry L)). places at (cut es q)) waits ∙ push_top at (waiting t) e q t.level lk (omega (arith, lk, up)) (All-drop (λ (x : Entry L). x.level ≤ t.level) t.taken t.entries below)))
-                (covered_more strong (places at (cut t.entries t.level)) (places at (cut (waiting t) t.level)) clauses (at l) (cut_false at t.entries t.level (at l) free) (h.covered t.level (omega arith)))))
-        ];
+            (subst Q (sym (ap (λ (es : List (Entry L)). places at (cut es q)) waits ∙ push_top at (waiting t) e q t.level lk (omega (arith, lk, up)) (All-drop (λ (x : Entry L). x.level ≤ t.level) t.taken t.entries below)))
+            (covered_more strong (places at (cut t.entries t.level)) (places at (cut (waiting t) t.level)) clauses (at l) (cut_false at t.entries t.level (at l) free) (h.covered t.level (omega arith)))))
+      ];
       inside = h.inside;
       distinct = h.distinct;
       size = h.size;
@@ -151,7 +151,7 @@ going_taken {L} at clauses chains t e rest h first lt walked =
         trail = trail_taken at t h.covers.trail lt;
         watches = h.covers.watches;
         covered = λ q lq. elim (cases_lt q t.level) [
-            inl less ↦ (let P : List (Entry L) → Type 0 = λ es. AllCovered true (places at (cut t.entries q)) (places at es) clauses in
+          | inl less ↦ (let P : List (Entry L) → Type 0 = λ es. AllCovered true (places at (cut t.entries q)) (places at es) clauses in
               subst P (none' q less ∙ sym (ap (λ (es : List (Entry L)). cut es q) left ∙ none'' q less)) (h.covers.covered q lq))
           | inr top ↦ (let same : t.level ≡ q = omega (arith, top, lq) in
               let P : ℕ → Type 0 = λ i. AllCovered true (places at (cut t.entries i)) (places at (cut (drop (t.taken + 1) t.entries) i)) clauses in
@@ -160,7 +160,7 @@ going_taken {L} at clauses chains t e rest h first lt walked =
               let S : List (Entry L) → Type 0 = λ es. (s : ℕ) → s / 2 < length clauses → 2 ≤ length (clause_of clauses s) → opposite_place (watched_at clauses s) ≡ at e.literal → HasTrue (places at es) (clause_of clauses s) in
               let was : AllCovered true (places at (cut t.entries t.level)) (at e.literal ∷ places at (cut rest t.level)) clauses = subst Q (kept_in e rest t.level (omega (arith, here))) (subst R first (h.covers.covered t.level (omega arith))) in
               subst P same (subst R (sym left) (covered_taken (places at (cut t.entries t.level)) (places at (cut rest t.level)) clauses (at e.literal) was (subst S (sym whole) walked))))
-          ];
+        ];
         inside = h.covers.inside;
         distinct = h.covers.distinct;
         size = h.covers.size;
@@ -190,17 +190,21 @@ goes_assigned {L} at clauses t l id known has rest =
       more = omega (arith, size);
       kept = take_at t.entries (e ∷ []) (length t.entries) refl;
       current = λ i d a b. ap (λ (x : Entry L). x.level) (here i d a b);
-      reasons = λ i d a b. (id, ap (λ (x : Entry L). x.reason) (here i d a b), record {
-        known = known;
-        has = λ d'. (let P : ℕ → Type 0 = λ x. Contains (get_or clauses id []) x in subst P (sym (ap (λ (x : Entry L). at x.literal) (here i d' a b))) has);
-        false_before = λ d'. (let before : take i (t.entries ++ e ∷ []) ≡ t.entries = take_at t.entries (e ∷ []) i (omega (arith, a, b, size)) in
-          let is : at (get_or (t.entries ++ e ∷ []) i d').literal ≡ at l = ap (λ (x : Entry L). at x.literal) (here i d' a b) in
-          let one' : (x : ℕ) → Contains (get_or clauses id []) x → (x ≡ at (get_or (t.entries ++ e ∷ []) i d').literal) ⊎ (is_false (places at (take i (t.entries ++ e ∷ []))) x ≡ true) = λ x m. elim (cases_eq x (at l)) [
-              inl same ↦ inl (same ∙ sym is)
-            | inr other ↦ inr (ap (λ (es : List (Entry L)). is_false (places at es) x) before ∙ rest x m other)
-            ] in
-          All-weaker (Contains (get_or clauses id [])) (λ x. (x ≡ at (get_or (t.entries ++ e ∷ []) i d').literal) ⊎ (is_false (places at (take i (t.entries ++ e ∷ []))) x ≡ true)) one' (get_or clauses id []) (All-contains_itself (get_or clauses id [])));
-      });
+      reasons = λ i d a b. (
+        id,
+        ap (λ (x : Entry L). x.reason) (here i d a b),
+        record {
+          known = known;
+          has = λ d'. (let P : ℕ → Type 0 = λ x. Contains (get_or clauses id []) x in subst P (sym (ap (λ (x : Entry L). at x.literal) (here i d' a b))) has);
+          false_before = λ d'. (let before : take i (t.entries ++ e ∷ []) ≡ t.entries = take_at t.entries (e ∷ []) i (omega (arith, a, b, size)) in
+              let is : at (get_or (t.entries ++ e ∷ []) i d').literal ≡ at l = ap (λ (x : Entry L). at x.literal) (here i d' a b) in
+              let one' : (x : ℕ) → Contains (get_or clauses id []) x → (x ≡ at (get_or (t.entries ++ e ∷ []) i d').literal) ⊎ (is_false (places at (take i (t.entries ++ e ∷ []))) x ≡ true) = λ x m. elim (cases_eq x (at l)) [
+                | inl same ↦ inl (same ∙ sym is)
+                | inr other ↦ inr (ap (λ (es : List (Entry L)). is_false (places at es) x) before ∙ rest x m other)
+              ] in
+              All-weaker (Contains (get_or clauses id [])) (λ x. (x ≡ at (get_or (t.entries ++ e ∷ []) i d').literal) ⊎ (is_false (places at (take i (t.entries ++ e ∷ []))) x ≡ true)) one' (get_or clauses id []) (All-contains_itself (get_or clauses id [])));
+        },
+      );
     }
 
 reason_later : {L : Type 0} (at : L → ℕ) (b c : List (List ℕ)) (t' t'' : Assignment L) (i id : ℕ) → AreReordered b c → i < length t'.entries → take (length t'.entries) t''.entries ≡ t'.entries → IsReason at t' b i id → IsReason at t'' c i id
@@ -211,8 +215,8 @@ reason_later {L} at b c t' t'' i id o lt kept r =
       known = omega (arith, r.known, o.count);
       has = λ d. (let P : Entry L → Type 0 = λ x. Contains (get_or c id []) (at x.literal) in subst P (same d) (Contains-permutation (get_or b id []) (get_or c id []) (at (get_or t'.entries i d).literal) (o.same id) (r.has d)));
       false_before = λ d. (let P : Entry L → Type 0 = λ x. All (λ l. (l ≡ at x.literal) ⊎ (is_false (places at (take i t''.entries)) l ≡ true)) (get_or c id []) in
-        let Q : List (Entry L) → Type 0 = λ es. All (λ l. (l ≡ at (get_or t'.entries i d).literal) ⊎ (is_false (places at es) l ≡ true)) (get_or c id []) in
-        subst P (same d) (subst Q before (All-permutation (λ l. (l ≡ at (get_or t'.entries i d).literal) ⊎ (is_false (places at (take i t'.entries)) l ≡ true)) (get_or b id []) (get_or c id []) (o.same id) (r.false_before d))));
+          let Q : List (Entry L) → Type 0 = λ es. All (λ l. (l ≡ at (get_or t'.entries i d).literal) ⊎ (is_false (places at es) l ≡ true)) (get_or c id []) in
+          subst P (same d) (subst Q before (All-permutation (λ l. (l ≡ at (get_or t'.entries i d).literal) ⊎ (is_false (places at (take i t'.entries)) l ≡ true)) (get_or b id []) (get_or c id []) (o.same id) (r.false_before d))));
     }
 
 pub goes_trans : {L : Type 0} (at : L → ℕ) (a b c : List (List ℕ)) (t t' t'' : Assignment L) → Propagates at a t b t' → Propagates at b t' c t'' → Propagates at a t c t''
@@ -225,13 +229,13 @@ goes_trans {L} at a b c t t' t'' x y =
       more = omega (arith, x.more, y.more);
       kept = sym (take-take (length t.entries) (length t'.entries) t''.entries x.more) ∙ ap (take (length t.entries)) y.kept ∙ x.kept;
       current = λ i d ln lt. elim (cases_lt i (length t'.entries)) [
-          inl old ↦ ap (λ (e : Entry L). e.level) (same i d old) ∙ x.current i d ln old
+        | inl old ↦ ap (λ (e : Entry L). e.level) (same i d old) ∙ x.current i d ln old
         | inr new ↦ y.current i d new lt ∙ x.level
-        ];
+      ];
       reasons = λ i d ln lt. elim (cases_lt i (length t'.entries)) [
-          inl old ↦ (let r = x.reasons i d ln old in (r.0, ap (λ (e : Entry L). e.reason) (same i d old) ∙ r.1, reason_later at b c t' t'' i r.0 y.order old y.kept r.2))
+        | inl old ↦ (let r = x.reasons i d ln old in (r.0, ap (λ (e : Entry L). e.reason) (same i d old) ∙ r.1, reason_later at b c t' t'' i r.0 y.order old y.kept r.2))
         | inr new ↦ y.reasons i d new lt
-        ];
+      ];
     }
 
 -- the end, at rest or at a false clause
@@ -253,10 +257,10 @@ at_rest_now {L} at clauses chains t h none' =
 
 pub weaker : {L : Type 0} (at : L → ℕ) (clauses chains : List (List ℕ)) (t : Assignment L) → IsCovered true at clauses chains t → IsCovered false at clauses chains t
 weaker at clauses chains t h = record {
-    trail = h.trail;
-    watches = h.watches;
-    covered = λ k lk s a b c d. elim (h.covered k lk s a b c d) [ inl some ↦ inl some | inr rest ↦ inr (rest.0, λ e. absurd (false≢true e)) ];
-    inside = h.inside;
-    distinct = h.distinct;
-    size = h.size;
-  }
+  trail = h.trail;
+  watches = h.watches;
+  covered = λ k lk s a b c d. elim (h.covered k lk s a b c d) [ inl some ↦ inl some | inr rest ↦ inr (rest.0, λ e. absurd (false≢true e)) ];
+  inside = h.inside;
+  distinct = h.distinct;
+  size = h.size;
+}

@@ -21,9 +21,9 @@ use Rattle.watch_core.proofs.Going.{covers_entered, weaker, settled_below, at_re
 -- no clauses
 no_row : {A : Type 0} (n i : ℕ) → get_or (replicate n (let e : List A = [] in e)) i [] ≡ []
 no_row {A} n i = elim (cases_lt i n) [
-      inl lt ↦ get_or-replicate n i [] [] lt
-    | inr past ↦ (let m = length-replicate n (let e : List A = [] in e) in get_or_past (replicate n []) i [] (omega (arith, m, past)))
-    ]
+  | inl lt ↦ get_or-replicate n i [] [] lt
+  | inr past ↦ (let m = length-replicate n (let e : List A = [] in e) in get_or_past (replicate n []) i [] (omega (arith, m, past)))
+]
 
 pub held_new : {L : Type 0} (at : L → ℕ) (clauses : List (List L)) (chains : List (List ℕ)) (room variables : ℕ) (t : Assignment L) → clauses ≡ [] → chains ≡ replicate (2 * variables) [] → t ≡ empty_trail variables → IsTrail at t → IsHeld at clauses chains room t
 unfolding IsDistinct
@@ -57,11 +57,12 @@ pub cut_split : {L : Type 0} (es : List (Entry L)) (k : ℕ) → ((i j : ℕ) (d
 cut_split [] k sorted = (0, omega arith, (λ i d lt. absurd (omega (arith, lt))), (λ i d a lt. absurd (omega (arith, lt))))
 cut_split {L} (e ∷ es) k sorted = step (leb_tells e.level k) (cut_split es k (λ i j d a b. sorted (suc i) (suc j) d (omega (arith, a)) (omega (arith, b)))) where
   step : ((leb e.level k ≡ true) × (e.level ≤ k)) ⊎ ((leb e.level k ≡ false) × (k < e.level)) → ((n : ℕ) × (n ≤ length es) × ((i : ℕ) (d : Entry L) → i < n → (get_or es i d).level ≤ k) × ((i : ℕ) (d : Entry L) → n ≤ i → i < length es → k < (get_or es i d).level))
-    → (n : ℕ) × (n ≤ length (e ∷ es)) × ((i : ℕ) (d : Entry L) → i < n → (get_or (e ∷ es) i d).level ≤ k) × ((i : ℕ) (d : Entry L) → n ≤ i → i < length (e ∷ es) → k < (get_or (e ∷ es) i d).level)
+      → (n : ℕ) × (n ≤ length (e ∷ es)) × ((i : ℕ) (d : Entry L) → i < n → (get_or (e ∷ es) i d).level ≤ k) × ((i : ℕ) (d : Entry L) → n ≤ i → i < length (e ∷ es) → k < (get_or (e ∷ es) i d).level)
   step (inl low) (n, le, a, b) = (suc n, omega (arith, le), low_of n a low.1, high_of n b) where
     low_of : (n : ℕ) → ((i : ℕ) (d : Entry L) → i < n → (get_or es i d).level ≤ k) → e.level ≤ k → (i : ℕ) (d : Entry L) → i < suc n → (get_or (e ∷ es) i d).level ≤ k
     low_of n a here zero d lt = here
     low_of n a here (suc i) d lt = a i d (omega (arith, lt))
+
     high_of : (n : ℕ) → ((i : ℕ) (d : Entry L) → n ≤ i → i < length es → k < (get_or es i d).level) → (i : ℕ) (d : Entry L) → suc n ≤ i → i < length (e ∷ es) → k < (get_or (e ∷ es) i d).level
     high_of n b zero d le lt = absurd (omega (arith, le))
     high_of n b (suc i) d le lt = b i d (omega (arith, le)) (omega (arith, lt))
@@ -80,15 +81,15 @@ waits_undone {L} at t k h =
 
 pub covers_undone : {L : Type 0} (strong : Bool) (at : L → ℕ) (clauses chains : List (List ℕ)) (t : Assignment L) (k : ℕ) → IsCovered strong at clauses chains t → k ≤ t.level → IsTrail at (undone t k) → IsCovered strong at clauses chains (undone t k)
 covers_undone {L} strong at clauses chains t k h le trail = record {
-    trail = trail;
-    watches = h.watches;
-    covered = λ q lq. (let P : List (Entry L) → Type 0 = λ es. AllCovered strong (places at es) (places at (cut (waiting (undone t k)) q)) clauses in
+  trail = trail;
+  watches = h.watches;
+  covered = λ q lq. (let P : List (Entry L) → Type 0 = λ es. AllCovered strong (places at es) (places at (cut (waiting (undone t k)) q)) clauses in
       let Q : List (Entry L) → Type 0 = λ es. AllCovered strong (places at (cut t.entries q)) (places at es) clauses in
       subst P (sym (cut_cut t.entries k q lq)) (subst Q (sym (ap (λ (es : List (Entry L)). cut es q) (waits_undone at t k h.trail) ∙ cut_cut (waiting t) k q lq)) (h.covered q (omega (arith, lq, le)))));
-    inside = h.inside;
-    distinct = h.distinct;
-    size = h.size;
-  }
+  inside = h.inside;
+  distinct = h.distinct;
+  size = h.size;
+}
 
 pub held_undone : {L : Type 0} (at : L → ℕ) (clauses : List (List L)) (chains : List (List ℕ)) (room k : ℕ) (t t' : Assignment L) → IsHeld at clauses chains room t → t' ≡ undone t k → IsTrail at t' → k ≤ t.level → IsHeld at clauses chains room t'
 held_undone {L} at clauses chains room k t t' h is trail le =
@@ -104,18 +105,19 @@ open_none set (x ∷ xs) h = ap (λ b. cond (not b) (x ∷ open_literals set xs)
 open_one : (set : List ℕ) (o : ℕ) (xs : List ℕ) → IsDistinct (λ x y. x == y) xs → ((l : ℕ) → Contains xs l → l ≢ o → is_false set l ≡ true) → length (open_literals set xs) ≤ 1
 open_one set o [] dis h = omega arith
 open_one set o (x ∷ xs) dis h = elim (cases_eq x o) [
-      inl same ↦ (let rest : open_literals set xs ≡ [] = open_none set xs (λ l has. h l (suc has.0, omega (arith, has.1), has.2) (λ e. apart l has (same ∙ sym e))) in
-        elim (either (is_false set x)) [
-          inl f ↦ (let n = ap length (ap (λ b. cond (not b) (x ∷ open_literals set xs) (open_literals set xs)) f ∙ rest) in omega (arith, n))
+  | inl same ↦ (let rest : open_literals set xs ≡ [] = open_none set xs (λ l has. h l (suc has.0, omega (arith, has.1), has.2) (λ e. apart l has (same ∙ sym e))) in
+      elim (either (is_false set x)) [
+        | inl f ↦ (let n = ap length (ap (λ b. cond (not b) (x ∷ open_literals set xs) (open_literals set xs)) f ∙ rest) in omega (arith, n))
         | inr t ↦ (let n = ap length (ap (λ b. cond (not b) (x ∷ open_literals set xs) (open_literals set xs)) t ∙ ap (λ ys. x ∷ ys) rest) in omega (arith, n))
-        ])
-    | inr ne ↦ (let n = ap length (ap (λ b. cond (not b) (x ∷ open_literals set xs) (open_literals set xs)) (h x (0, omega arith, refl) ne)) in
-        let m = open_one set o xs (IsDistinct-tail (λ x y. x == y) x xs dis) (λ l has. h l (suc has.0, omega (arith, has.1), has.2)) in omega (arith, n, m))
-    ]
+      ])
+  | inr ne ↦ (let n = ap length (ap (λ b. cond (not b) (x ∷ open_literals set xs) (open_literals set xs)) (h x (0, omega arith, refl) ne)) in
+      let m = open_one set o xs (IsDistinct-tail (λ x y. x == y) x xs dis) (λ l has. h l (suc has.0, omega (arith, has.1), has.2)) in omega (arith, n, m))
+]
   where
     either : (b : Bool) → (b ≡ true) ⊎ (b ≡ false)
     either true = inl refl
     either false = inr refl
+
     apart : (l : ℕ) → Contains xs l → x ≢ l
     apart l has e = (let a = All-contains (λ y. (x == y) ≡ false) xs l (All-from_recursion (λ y. (x == y) ≡ false) xs (IsDistinct-head (λ x y. x == y) x xs dis)) has in false≢true (sym a ∙ eq-eqb x l e))
 
@@ -127,48 +129,49 @@ strong_one set waits c o dis (inl (inl some)) (inr rest) = inl (any_to set c som
 strong_one set waits c o dis (inl (inr two)) (inr rest) = (let n = open_one set o c dis (λ l has ne. (rest.0 l has ne).0) in absurd (omega (arith, n, two)))
 strong_one set waits c o dis (inr one') (inr rest) =
     (let w = any_waits waits c one' in elim (cases_eq w.0 o) [
-      inl same ↦ inr (rest.0, λ e. ap (is_false waits) (sym same) ∙ w.2)
-    | inr ne ↦ absurd (false≢true (sym (rest.0 w.0 w.1 ne).1 ∙ w.2))
+      | inl same ↦ inr (rest.0, λ e. ap (is_false waits) (sym same) ∙ w.2)
+      | inr ne ↦ absurd (false≢true (sym (rest.0 w.0 w.1 ne).1 ∙ w.2))
     ])
   where
     either : (a b : Bool) → (a || b) ≡ true → (a ≡ true) ⊎ (b ≡ true)
     either true b h = inl refl
     either false b h = inr h
+
     any_waits : (waits xs : List ℕ) → list_any (λ l. is_true waits (opposite_place l)) xs ≡ true → (l : ℕ) × Contains xs l × (is_false waits l ≡ true)
     any_waits waits [] h = absurd (false≢true h)
     any_waits waits (x ∷ xs) h = elim (either (is_false waits x) (list_any (λ l. is_true waits (opposite_place l)) xs) h) [
-          inl here ↦ (x, (0, omega arith, refl), here)
-        | inr later ↦ (let r = any_waits waits xs later in (r.0, (suc r.1.0, omega (arith, r.1.1), r.1.2), r.2))
-        ]
+      | inl here ↦ (x, (0, omega arith, refl), here)
+      | inr later ↦ (let r = any_waits waits xs later in (r.0, (suc r.1.0, omega (arith, r.1.1), r.1.2), r.2))
+    ]
 
 pub going_from : {L : Type 0} (at : L → ℕ) (clauses chains : List (List ℕ)) (t : Assignment L) → IsCovered false at clauses chains t → CanPropagate at t clauses → IsPropagating at clauses chains t
 going_from {L} at clauses chains t h can = record {
-    covers = record {
-      trail = h.trail;
-      watches = h.watches;
-      covered = λ q lq s known long f away.
+  covers = record {
+    trail = h.trail;
+    watches = h.watches;
+    covered = λ q lq s known long f away.
         strong_one (places at (cut t.entries q)) (places at (cut (waiting t) q)) (clause_of clauses s) (beside clauses s) (h.distinct (s / 2)) (elim (cases_lt q t.level) [
-          inl less ↦ inl (can.below q less (s / 2) [] known long)
-        | inr top ↦ (let same : t.level ≡ q = omega (arith, top, lq) in
-            let P : ℕ → Type 0 = λ k. IsSettled (places at (cut t.entries k)) (clause_of clauses s) ⊎ (list_any (λ l. is_true (places at (cut (waiting t) k)) (opposite_place l)) (clause_of clauses s) ≡ true) in
-            let Q : List (Entry L) → Type 0 = λ es. IsSettled (places at es) (clause_of clauses s) ⊎ (list_any (λ l. is_true (places at (cut (waiting t) t.level)) (opposite_place l)) (clause_of clauses s) ≡ true) in
-            let R : List (Entry L) → Type 0 = λ es. IsSettled (places at t.entries) (clause_of clauses s) ⊎ (list_any (λ l. is_true (places at es) (opposite_place l)) (clause_of clauses s) ≡ true) in
-            let all : All (λ (e : Entry L). e.level ≤ t.level) (waiting t) = All-weaker (λ (e : Entry L). e.level ≡ t.level) (λ (e : Entry L). e.level ≤ t.level) (λ e is. omega (arith, is)) (waiting t) can.current in
-            subst P same (subst Q (sym (cut_all t.entries t.level h.trail.leveled.below)) (subst R (sym (cut_all (waiting t) t.level all)) (can.whole (s / 2) [] known long))))
+          | inl less ↦ inl (can.below q less (s / 2) [] known long)
+          | inr top ↦ (let same : t.level ≡ q = omega (arith, top, lq) in
+              let P : ℕ → Type 0 = λ k. IsSettled (places at (cut t.entries k)) (clause_of clauses s) ⊎ (list_any (λ l. is_true (places at (cut (waiting t) k)) (opposite_place l)) (clause_of clauses s) ≡ true) in
+              let Q : List (Entry L) → Type 0 = λ es. IsSettled (places at es) (clause_of clauses s) ⊎ (list_any (λ l. is_true (places at (cut (waiting t) t.level)) (opposite_place l)) (clause_of clauses s) ≡ true) in
+              let R : List (Entry L) → Type 0 = λ es. IsSettled (places at t.entries) (clause_of clauses s) ⊎ (list_any (λ l. is_true (places at es) (opposite_place l)) (clause_of clauses s) ≡ true) in
+              let all : All (λ (e : Entry L). e.level ≤ t.level) (waiting t) = All-weaker (λ (e : Entry L). e.level ≡ t.level) (λ (e : Entry L). e.level ≤ t.level) (λ e is. omega (arith, is)) (waiting t) can.current in
+              subst P same (subst Q (sym (cut_all t.entries t.level h.trail.leveled.below)) (subst R (sym (cut_all (waiting t) t.level all)) (can.whole (s / 2) [] known long))))
         ]) (h.covered q lq s known long f away);
-      inside = h.inside;
-      distinct = h.distinct;
-      size = h.size;
-    };
-    current = can.current;
-  }
+    inside = h.inside;
+    distinct = h.distinct;
+    size = h.size;
+  };
+  current = can.current;
+}
 
 pub held_from : {L : Type 0} (at : L → ℕ) (clauses clauses' : List (List L)) (chains chains' : List (List ℕ)) (room room' : ℕ) (t t' : Assignment L) → IsHeld at clauses chains room t → IsPropagating at (placed at clauses') chains' t' → Propagates at (placed at clauses) t (placed at clauses') t' → room' ≡ room → IsHeld at clauses' chains' room' t'
 held_from at clauses clauses' chains chains' room room' t t' h go goes er = record {
-    covers = weaker at (placed at clauses') chains' t' go.covers;
-    fits = (let a = length-map clauses (map at) in let b = length-map clauses' (map at) in omega (arith, h.fits, er, goes.order.count, a, b));
-  }
+  covers = weaker at (placed at clauses') chains' t' go.covers;
+  fits = (let a = length-map clauses (map at) in let b = length-map clauses' (map at) in omega (arith, h.fits, er, goes.order.count, a, b));
+}
 
 pub outcome_now : {L : Type 0} (at : L → ℕ) (cs : List (List L)) (chains : List (List ℕ)) (t : Assignment L) (r : Option ℕ) → IsPropagating at (placed at cs) chains t → IfNone r (waiting t ≡ []) → IfSome r (IsFalseClause (places at t.entries) (placed at cs)) → Outcome at t (placed at cs) r
 outcome_now at cs chains t None h none' some = at_rest_now at (placed at cs) chains t h none'
-outcome_now at cs chains t (Some id) h none' some = record { clause = some; below = settled_below at (placed at cs) chains t h }
+outcome_now at cs chains t (Some id) h none' some = record { clause = some; current = h.current; below = settled_below at (placed at cs) chains t h }

@@ -9,15 +9,15 @@ use Rattle.watch_core.specs.Trail.{Entry, Assignment, IsLeveled, cut, undone, wa
 
 pub kept_in : {L : Type 0} (e : Entry L) (es : List (Entry L)) (k : ℕ) → e.level ≤ k → cut (e ∷ es) k ≡ e ∷ cut es k
 kept_in e es k h = elim (leb_tells e.level k) [
-      inl yes' ↦ ap (λ b. cond b (e ∷ cut es k) (cut es k)) yes'.0
-    | inr no' ↦ absurd (omega (arith, no'.1, h))
-    ]
+  | inl yes' ↦ ap (λ b. cond b (e ∷ cut es k) (cut es k)) yes'.0
+  | inr no' ↦ absurd (omega (arith, no'.1, h))
+]
 
 pub left_out : {L : Type 0} (e : Entry L) (es : List (Entry L)) (k : ℕ) → k < e.level → cut (e ∷ es) k ≡ cut es k
 left_out e es k h = elim (leb_tells e.level k) [
-      inl yes' ↦ absurd (omega (arith, yes'.1, h))
-    | inr no' ↦ ap (λ b. cond b (e ∷ cut es k) (cut es k)) no'.0
-    ]
+  | inl yes' ↦ absurd (omega (arith, yes'.1, h))
+  | inr no' ↦ ap (λ b. cond b (e ∷ cut es k) (cut es k)) no'.0
+]
 
 pub cut_all : {L : Type 0} (es : List (Entry L)) (k : ℕ) → All (λ (e : Entry L). e.level ≤ k) es → cut es k ≡ es
 cut_all [] k h = refl
@@ -30,13 +30,13 @@ cut_none (e ∷ es) k h = left_out e es k (h 0 e (omega arith)) ∙ cut_none es 
 pub cut_cut : {L : Type 0} (es : List (Entry L)) (j k : ℕ) → k ≤ j → cut (cut es j) k ≡ cut es k
 cut_cut [] j k h = refl
 cut_cut (e ∷ es) j k h = elim (leb_tells e.level j) [
-      inl low ↦ (let one : cut (cut (e ∷ es) j) k ≡ cut (e ∷ cut es j) k = ap (λ xs. cut xs k) (kept_in e es j low.1) in
-        elim (leb_tells e.level k) [
-          inl lower ↦ one ∙ kept_in e (cut es j) k lower.1 ∙ ap (λ xs. e ∷ xs) (cut_cut es j k h) ∙ sym (kept_in e es k lower.1)
+  | inl low ↦ (let one : cut (cut (e ∷ es) j) k ≡ cut (e ∷ cut es j) k = ap (λ xs. cut xs k) (kept_in e es j low.1) in
+      elim (leb_tells e.level k) [
+        | inl lower ↦ one ∙ kept_in e (cut es j) k lower.1 ∙ ap (λ xs. e ∷ xs) (cut_cut es j k h) ∙ sym (kept_in e es k lower.1)
         | inr no' ↦ one ∙ left_out e (cut es j) k no'.1 ∙ cut_cut es j k h ∙ sym (left_out e es k no'.1)
-        ])
-    | inr high ↦ ap (λ xs. cut xs k) (left_out e es j high.1) ∙ cut_cut es j k h ∙ sym (left_out e es k (omega (arith, high.1, h)))
-    ]
+      ])
+  | inr high ↦ ap (λ xs. cut xs k) (left_out e es j high.1) ∙ cut_cut es j k h ∙ sym (left_out e es k (omega (arith, high.1, h)))
+]
 
 pub cut_is : {L : Type 0} (es : List (Entry L)) (n k : ℕ) → n ≤ length es → ((i : ℕ) (d : Entry L) → i < n → (get_or es i d).level ≤ k) → ((i : ℕ) (d : Entry L) → n ≤ i → i < length es → k < (get_or es i d).level) → cut es k ≡ take n es
 cut_is [] zero k h low high = refl
@@ -54,7 +54,7 @@ leveled_more {L} es k k' e h step is =
     let all : All (λ (x : Entry L). x.level ≤ k') (es ++ e ∷ []) = All-push (λ (x : Entry L). x.level ≤ k') es e (All-weaker (λ (x : Entry L). x.level ≤ k) (λ (x : Entry L). x.level ≤ k') (λ x lt. omega (arith, lt, up)) es h.below) (omega (arith, is)) in
     record {
       sorted = λ i j d lij lj. elim (cases_lt j (length es)) [
-          inl old ↦ (let s = h.sorted i j d lij old in let a = ap (λ (x : Entry L). x.level) (get_or_append_left es (e ∷ []) d i (omega (arith, lij, old))) in let b = ap (λ (x : Entry L). x.level) (get_or_append_left es (e ∷ []) d j old) in omega (arith, s, a, b))
+        | inl old ↦ (let s = h.sorted i j d lij old in let a = ap (λ (x : Entry L). x.level) (get_or_append_left es (e ∷ []) d i (omega (arith, lij, old))) in let b = ap (λ (x : Entry L). x.level) (get_or_append_left es (e ∷ []) d j old) in omega (arith, s, a, b))
         | inr new ↦ (let top : j ≡ length es = omega (arith, new, lj, size) in
             let li : i < length es = omega (arith, lij, top) in
             let s = h.below i d li in
@@ -62,16 +62,16 @@ leveled_more {L} es k k' e h step is =
             let b : get_or (es ++ e ∷ []) j d ≡ e = get_or-append_right es (e ∷ []) (length es) j d refl new ∙ ap (λ n. get_or (e ∷ []) n d) (let z : j - length es ≡ 0 = omega (arith, top) in z) in
             let b' = ap (λ (x : Entry L). x.level) b in
             omega (arith, s, a, b', is, up))
-        ];
+      ];
       below = all;
       begun = λ q lq. elim (cases_lt q k') [
-          inl less ↦ (let b = h.begun q (elim step [ inl x ↦ omega (arith, x, lq) | inr x ↦ omega (arith, x, less) ]) in let m = cut_more es e q in omega (arith, b, m))
+        | inl less ↦ (let b = h.begun q (elim step [ inl x ↦ omega (arith, x, lq) | inr x ↦ omega (arith, x, less) ]) in let m = cut_more es e q in omega (arith, b, m))
         | inr top ↦ (let same : q ≡ k' = omega (arith, top, lq) in
             let n = ap length (ap (cut (es ++ e ∷ [])) same ∙ cut_all (es ++ e ∷ []) k' all) in
             let b = h.begun k (omega arith) in
             let m = ap length (cut_all es k h.below) in
             elim step [ inl x ↦ omega (arith, x, n, b, m, size, same) | inr x ↦ omega (arith, x, n, b, m, size, same) ])
-        ];
+      ];
     }
 
 pub leveled_cut : {L : Type 0} (es : List (Entry L)) (k j n : ℕ) → IsLeveled es k → j ≤ k → n ≤ length es → cut es j ≡ take n es → IsLeveled (take n es) j
@@ -79,15 +79,15 @@ leveled_cut {L} es k j n h le ln is =
     let size : length (take n es) ≡ n = length-take-le n es ln in
     record {
       sorted = λ i q d liq lq. (let lq' : q < n = omega (arith, lq, size) in
-        let s = h.sorted i q d liq (omega (arith, lq', ln)) in
-        let a = ap (λ (x : Entry L). x.level) (get_or-take n es i d (omega (arith, liq, lq'))) in
-        let b = ap (λ (x : Entry L). x.level) (get_or-take n es q d lq') in
-        omega (arith, s, a, b));
+          let s = h.sorted i q d liq (omega (arith, lq', ln)) in
+          let a = ap (λ (x : Entry L). x.level) (get_or-take n es i d (omega (arith, liq, lq'))) in
+          let b = ap (λ (x : Entry L). x.level) (get_or-take n es q d lq') in
+          omega (arith, s, a, b));
       below = (let P : List (Entry L) → Type 0 = λ xs. All (λ (e : Entry L). e.level ≤ j) xs in
-        subst P is (λ i d lt. (let t = filter_passes (λ (x : Entry L). leb x.level j) es i d lt in
+          subst P is (λ i d lt. (let t = filter_passes (λ (x : Entry L). leb x.level j) es i d lt in
           elim (leb_tells (get_or (cut es j) i d).level j) [ inl low ↦ low.1 | inr high ↦ absurd (false≢true (sym high.0 ∙ t)) ])));
       begun = λ q lq. (let b = h.begun q (omega (arith, lq, le)) in
-        let m = ap length (ap (λ xs. cut xs q) (sym is) ∙ cut_cut es j q lq) in omega (arith, b, m));
+          let m = ap length (ap (λ xs. cut xs q) (sym is) ∙ cut_cut es j q lq) in omega (arith, b, m));
     }
 
 -- what waits after the trail was cut are those that waited and stay

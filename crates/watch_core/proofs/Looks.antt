@@ -59,13 +59,13 @@ unfolding seats_in
 in_has n [] q s is long at = absurd (omega (arith, long))
 in_has n (x ∷ []) q s is long at = absurd (omega (arith, long))
 in_has n (x ∷ y ∷ ls) q s is long at = elim (eqb_tells (s % 2) 0) [
-      inl even ↦ (let e : x ≡ q = sym (ap (λ i. get_or (x ∷ y ∷ ls) i 0) even.1) ∙ at in
-        Contains-append_left (cond (x == q) ((2 * n) ∷ []) []) (cond (y == q) ((2 * n + 1) ∷ []) []) s
-          (let P : Bool → Type 0 = λ b. Contains (cond b ((2 * n) ∷ []) []) s in subst P (sym (eq-eqb x q e)) (0, omega arith, (let z : 2 * n ≡ s = omega (arith, is, even.1) in z))))
-    | inr odd ↦ (let one' : s % 2 ≡ 1 = omega (arith, odd.1) in let e : y ≡ q = sym (ap (λ i. get_or (x ∷ y ∷ ls) i 0) one') ∙ at in
-        Contains-append_right (cond (x == q) ((2 * n) ∷ []) []) (cond (y == q) ((2 * n + 1) ∷ []) []) s
-          (let P : Bool → Type 0 = λ b. Contains (cond b ((2 * n + 1) ∷ []) []) s in subst P (sym (eq-eqb y q e)) (0, omega arith, (let z : 2 * n + 1 ≡ s = omega (arith, is, one') in z))))
-    ]
+  | inl even ↦ (let e : x ≡ q = sym (ap (λ i. get_or (x ∷ y ∷ ls) i 0) even.1) ∙ at in
+      Contains-append_left (cond (x == q) ((2 * n) ∷ []) []) (cond (y == q) ((2 * n + 1) ∷ []) []) s
+      (let P : Bool → Type 0 = λ b. Contains (cond b ((2 * n) ∷ []) []) s in subst P (sym (eq-eqb x q e)) (0, omega arith, (let z : 2 * n ≡ s = omega (arith, is, even.1) in z))))
+  | inr odd ↦ (let one' : s % 2 ≡ 1 = omega (arith, odd.1) in let e : y ≡ q = sym (ap (λ i. get_or (x ∷ y ∷ ls) i 0) one') ∙ at in
+      Contains-append_right (cond (x == q) ((2 * n) ∷ []) []) (cond (y == q) ((2 * n + 1) ∷ []) []) s
+      (let P : Bool → Type 0 = λ b. Contains (cond b ((2 * n + 1) ∷ []) []) s in subst P (sym (eq-eqb y q e)) (0, omega arith, (let z : 2 * n + 1 ≡ s = omega (arith, is, one') in z))))
+]
 
 from_has : (n : ℕ) (cs : List (List ℕ)) (q s i : ℕ) → s / 2 ≡ n + i → i < length cs → 2 ≤ length (get_or cs i []) → get_or (get_or cs i []) (s % 2) 0 ≡ q → Contains (seats_from n cs q) s
 unfolding seats_from
@@ -84,23 +84,23 @@ to_member (x ∷ xs) s (suc i, lt, e) = or_right (eqb s x) (list_any (eqb s) xs)
 of_member : (xs : List ℕ) (s : ℕ) → list_any (eqb s) xs ≡ true → Contains xs s
 of_member [] s h = absurd (false≢true h)
 of_member (x ∷ xs) s h = elim (eqb_tells s x) [
-      inl same ↦ (0, omega arith, sym same.1)
-    | inr other ↦ (let r = of_member xs s (sym (ap (λ b. b || list_any (eqb s) xs) other.0) ∙ h) in (suc r.0, omega (arith, r.1), r.2))
-    ]
+  | inl same ↦ (0, omega arith, sym same.1)
+  | inr other ↦ (let r = of_member xs s (sym (ap (λ b. b || list_any (eqb s) xs) other.0) ∙ h) in (suc r.0, omega (arith, r.1), r.2))
+]
 
 eqb_laws : IsEquivalence eqb
 eqb_laws = record {
-    refl = λ x. eq-eqb x x refl;
-    symm = λ x y. elim (eqb_tells x y) [ inl same ↦ same.0 ∙ sym (eq-eqb y x (sym same.1)) | inr other ↦ other.0 ∙ sym (not_eqb y x (λ e. other.1 (sym e))) ];
-    congr = λ x y z h. elim (eqb_tells x y) [ inl same ↦ ap (λ w. eqb w z) same.1 | inr other ↦ absurd (false≢true (sym other.0 ∙ h)) ];
-  }
+  refl = λ x. eq-eqb x x refl;
+  symm = λ x y. elim (eqb_tells x y) [ inl same ↦ same.0 ∙ sym (eq-eqb y x (sym same.1)) | inr other ↦ other.0 ∙ sym (not_eqb y x (λ e. other.1 (sym e))) ];
+  congr = λ x y z h. elim (eqb_tells x y) [ inl same ↦ ap (λ w. eqb w z) same.1 | inr other ↦ absurd (false≢true (sym other.0 ∙ h)) ];
+}
 
 pub chain_short : (C chains : List (List ℕ)) (q : ℕ) → Watches C chains → AreApart chains → length (chain_at chains q) ≤ occurrences C q
 chain_short C chains q w apart =
     let xs : List ℕ = chain_at chains q in
     let short : length xs ≤ length (seats_from 0 C q) = length-le_from_is_member eqb_laws xs (seats_from 0 C q)
-      (IsDistinct-from_apart eqb xs (λ i j d lij lj. not_eqb (get_or xs i d) (get_or xs j d) (λ e. (let z = (apart q i q j (omega (arith, lij, lj)) lj (sym (get_or_default xs i d 0 (omega (arith, lij, lj))) ∙ e ∙ get_or_default xs j d 0 lj)).1 in omega (arith, z, lij)))))
-      (λ s h. (let is = w.seats q s (of_member xs s h) in to_member (seats_from 0 C q) s (from_has 0 C q s (s / 2) (omega arith) is.known is.long is.at))) in
+    (IsDistinct-from_apart eqb xs (λ i j d lij lj. not_eqb (get_or xs i d) (get_or xs j d) (λ e. (let z = (apart q i q j (omega (arith, lij, lj)) lj (sym (get_or_default xs i d 0 (omega (arith, lij, lj))) ∙ e ∙ get_or_default xs j d 0 lj)).1 in omega (arith, z, lij)))))
+    (λ s h. (let is = w.seats q s (of_member xs s h) in to_member (seats_from 0 C q) s (from_has 0 C q s (s / 2) (omega arith) is.known is.long is.at))) in
     (let f = from_short 0 C q in omega (arith, short, f))
 
 same_sums : (f : List ℕ → ℕ) (xs ys : List (List ℕ)) → length ys ≡ length xs → ((i : ℕ) → f (get_or ys i []) ≡ f (get_or xs i [])) → sum_by f ys ≡ sum_by f xs

@@ -19,9 +19,10 @@ same_from_places at one' (x ∷ xs) (y ∷ ys) e =
 map_swaps : {L : Type 0} (at : L → ℕ) (xs : List L) (moves : List (ℕ × ℕ)) → SwapsInRange (length xs) moves → (map at (apply_swaps xs moves) ≡ apply_swaps (map at xs) moves) × (length (apply_swaps xs moves) ≡ length xs)
 map_swaps at xs [] h = (refl, refl)
 map_swaps at xs (p ∷ ps) h =
-    let rest = map_swaps at xs ps h.2 in
-    (map_swap at (apply_swaps xs ps) p.0 p.1 (omega (arith, h.0, rest.1)) (omega (arith, h.1, rest.1)) ∙ ap (λ ys. swap ys p.0 p.1) rest.0,
-     length-swap (apply_swaps xs ps) p.0 p.1 ∙ rest.1)
+    let rest = map_swaps at xs ps h.2 in (
+      map_swap at (apply_swaps xs ps) p.0 p.1 (omega (arith, h.0, rest.1)) (omega (arith, h.1, rest.1)) ∙ ap (λ ys. swap ys p.0 p.1) rest.0,
+      length-swap (apply_swaps xs ps) p.0 p.1 ∙ rest.1,
+    )
 
 permuted : {L : Type 0} (at : L → ℕ) → ((l m : L) → at l ≡ at m → l ≡ m) → (xs ys : List L) → IsPermutation (map at xs) (map at ys) → IsPermutation xs ys
 permuted at one' xs ys h =
@@ -31,8 +32,8 @@ permuted at one' xs ys h =
 
 pub only_order : {L : Type 0} (at : L → ℕ) → ((l m : L) → at l ≡ at m → l ≡ m) → (clauses clauses' : List (List L)) → AreReordered (placed at clauses) (placed at clauses') → AreReordered clauses clauses'
 only_order {L} at one' clauses clauses' h = record {
-    count = sym (length-map clauses' (map at)) ∙ h.count ∙ length-map clauses (map at);
-    same = λ c. (let P : List ℕ → Type 0 = λ xs. IsPermutation xs (map at (get_or clauses' c [])) in
+  count = sym (length-map clauses' (map at)) ∙ h.count ∙ length-map clauses (map at);
+  same = λ c. (let P : List ℕ → Type 0 = λ xs. IsPermutation xs (map at (get_or clauses' c [])) in
       let Q : List ℕ → Type 0 = λ ys. IsPermutation (get_or (placed at clauses) c []) ys in
       permuted at one' (get_or clauses c []) (get_or clauses' c []) (subst P (placed_row at clauses c) (subst Q (placed_row at clauses' c) (h.same c))));
-  }
+}

@@ -23,7 +23,7 @@ all_wait : (place : ℕ) → place ≡ 6 → All (λ clause. 2 ≤ length clause
 all_wait place is =
     let P : ℕ → Type 0 = λ n. All (λ clause. 2 ≤ length clause → IsSettled (n ∷ []) clause ⊎ (list_any (λ l. is_true (n ∷ []) (opposite_place l)) clause ≡ true)) six_clauses in
     subst P (sym is) (All-from_recursion (λ clause. 2 ≤ length clause → IsSettled (6 ∷ []) clause ⊎ (list_any (λ l. is_true (6 ∷ []) (opposite_place l)) clause ≡ true)) six_clauses
-      ((λ h. inl (inr (omega arith))), ((λ h. inr refl), ((λ h. inr refl), ((λ h. inl (inr (omega arith))), ((λ h. inl (inr (omega arith))), ((λ h. inl (inl refl)), tt)))))))
+    ((λ h. inl (inr (omega arith))), ((λ h. inr refl), ((λ h. inr refl), ((λ h. inl (inr (omega arith))), ((λ h. inl (inr (omega arith))), ((λ h. inl (inl refl)), tt)))))))
 
 -- after the decision each clause is settled, or has the negation of the decided literal
 pub can_propagate : {L : Type 0} (at : L → ℕ) (trail before : Assignment L) (clauses : List (List ℕ)) (decision : L) → at decision ≡ 6 → before ≡ empty_trail 5 → trail ≡ decided before decision → clauses ≡ six_clauses → CanPropagate at trail clauses

@@ -19,9 +19,9 @@ use Rattle.watch_core.proofs.Going.{covers_moved, going_assigned, going_taken, g
 
 pub placed_row : {L : Type 0} (at : L → ℕ) (cs : List (List L)) (i : ℕ) → get_or (placed at cs) i [] ≡ map at (get_or cs i [])
 placed_row at cs i = elim (cases_lt i (length cs)) [
-      inl lt ↦ get_or-map (map at) cs i [] [] lt
-    | inr past ↦ (let n = length-map cs (map at) in get_or_past (placed at cs) i [] (omega (arith, n, past)) ∙ sym (ap (map at) (get_or_past cs i [] past)))
-    ]
+  | inl lt ↦ get_or-map (map at) cs i [] [] lt
+  | inr past ↦ (let n = length-map cs (map at) in get_or_past (placed at cs) i [] (omega (arith, n, past)) ∙ sym (ap (map at) (get_or_past cs i [] past)))
+]
 
 pub row_is : {L : Type 0} (at : L → ℕ) (cs : List (List L)) (i n : ℕ) (clause : List L) → n ≡ i → clause ≡ get_or cs n [] → get_or (placed at cs) i [] ≡ map at clause
 row_is at cs i n clause e is = placed_row at cs i ∙ ap (map at) (ap (λ k. get_or cs k []) (sym e) ∙ sym is)
@@ -50,6 +50,7 @@ waits_true {L} at t l h = later t.taken t.entries h where
   or_right : (a b : Bool) → b ≡ true → (a || b) ≡ true
   or_right true b h = refl
   or_right false b h = h
+
   later : (n : ℕ) (es : List (Entry L)) → is_true (places at (drop n es)) l ≡ true → is_true (places at es) l ≡ true
   later zero es h = h
   later (suc n) [] h = h
@@ -63,10 +64,10 @@ all_false set (x ∷ xs) h = ap (λ b. b && list_all (is_false set) xs) (h 0 (om
 pub others_false : {L : Type 0} (at : L → ℕ) (set xs : List ℕ) (clause : List L) (s side : ℕ) (d : L) → xs ≡ map at clause → side ≡ s % 2 → is_false set (get_or xs side 0) ≡ true → ((j : ℕ) (l : L) → 2 ≤ j → j < length clause → is_false set (at (get_or clause j l)) ≡ true)
     → (i : ℕ) → i < length xs → i ≢ 1 - side → is_false set (get_or xs i 0) ≡ true
 others_false at set xs clause s side d e es f rest i lt ne = elim (cases_lt i 2) [
-      inl low ↦ (let same : i ≡ side = omega (arith, low, ne, es) in ap (λ k. is_false set (get_or xs k 0)) same ∙ f)
-    | inr high ↦ (let n = row_long at xs clause e in
-        ap (is_false set) (ap (λ (ys : List ℕ). get_or ys i 0) e ∙ get_or-map at clause i d 0 (omega (arith, lt, n))) ∙ rest i d high (omega (arith, lt, n)))
-    ]
+  | inl low ↦ (let same : i ≡ side = omega (arith, low, ne, es) in ap (λ k. is_false set (get_or xs k 0)) same ∙ f)
+  | inr high ↦ (let n = row_long at xs clause e in
+      ap (is_false set) (ap (λ (ys : List ℕ). get_or ys i 0) e ∙ get_or-map at clause i d 0 (omega (arith, lt, n))) ∙ rest i d high (omega (arith, lt, n)))
+]
 
 pub free_of : (set : List ℕ) (p : ℕ) → is_true set p ≡ false → is_false set p ≡ false → value_of set p ≡ None
 free_of set p a b = ap (λ x. cond x (Some true) (cond (is_false set p) (Some false) None)) a ∙ ap (λ x. cond x (Some false) None) b

@@ -7,7 +7,7 @@ use Rattle.std.proofs.lemmas.List.Elements.{All-map, All-set}
 use Rattle.std.proofs.lemmas.Bool.{cases_eq, cases_lt, false≢true}
 use Rattle.std.proofs.lemmas.Bool.Decides.{eqb_tells, nat_tests}
 use Rattle.watch_core.specs.Places.{opposite_place, is_true, is_false}
-use Rattle.watch_core.specs.Trail.{Entry, Assignment, IsTrail, IsLeveled, places, value_of, assigned, undone, cut, order, waiting}
+use Rattle.watch_core.specs.Trail.{Entry, Assignment, IsTrail, IsLeveled, places, value_of, assigned, undone, cut, order, waiting, empty_trail}
 use Rattle.watch_core.specs.Kept.{blank, reason_of, entry_of, entries_of, IsKept, Keeps}
 use Rattle.watch_core.specs.declared.trail.Mark.{Mark}
 use Rattle.watch_core.proofs.Assign.{more_true, or_true, or_none, value_none, twice, not_eqb, opposite_ne, order_short, course_assigned}
@@ -33,17 +33,17 @@ short_order at values marks (d ∷ order) capacity taken level k =
 pub trail_is : {L : Type 0} (at : L → ℕ) (values : List ℕ) (marks : List Mark) (order : List L) (capacity taken level : ℕ) → Keeps at values marks order capacity taken level
     → (let t : Assignment L = record { entries = entries_of at marks order; level = level; taken = taken; variables = length marks } in IsTrail at t)
 trail_is {L} at values marks order capacity taken level k = record {
-    inside = All-map (λ (e : Entry L). at e.literal < 2 * length marks) (entry_of at marks) order (λ i d lt. (let h = k.kept.inside i d lt in omega (arith, h, k.kept.sizes)));
-    leveled = k.leveled;
-    within = (let n = length-map order (entry_of at marks) in omega (arith, n, k.kept.within));
-    few = k.few;
-    low = level_low at values marks order capacity taken level k;
-    short = short_order at values marks order capacity taken level k;
-    apart = λ i j d lij lj e. (let n = length-map order (entry_of at marks) in
+  inside = All-map (λ (e : Entry L). at e.literal < 2 * length marks) (entry_of at marks) order (λ i d lt. (let h = k.kept.inside i d lt in omega (arith, h, k.kept.sizes)));
+  leveled = k.leveled;
+  within = (let n = length-map order (entry_of at marks) in omega (arith, n, k.kept.within));
+  few = k.few;
+  low = level_low at values marks order capacity taken level k;
+  short = short_order at values marks order capacity taken level k;
+  apart = λ i j d lij lj e. (let n = length-map order (entry_of at marks) in
       let a : get_or (entries_of at marks order) i d ≡ entry_of at marks (get_or order i d.literal) = get_or-map (entry_of at marks) order i d.literal d (omega (arith, n, lij, lj)) in
       let b : get_or (entries_of at marks order) j d ≡ entry_of at marks (get_or order j d.literal) = get_or-map (entry_of at marks) order j d.literal d (omega (arith, n, lj)) in
       k.kept.apart i j d.literal lij (omega (arith, n, lj)) (sym (ap (λ (x : Entry L). at x.literal / 2) a) ∙ e ∙ ap (λ (x : Entry L). at x.literal / 2) b));
-  }
+}
 
 -- all that `enter` keeps
 pub keeps_entered : {L : Type 0} (at : L → ℕ) (values : List ℕ) (marks : List Mark) (order order' : List L) (capacity capacity' taken place q n level0 level level' : ℕ) (l : L) (m : Mark) (entries : List (Entry L)) → Keeps at values marks order capacity taken level → entries_of at marks order ≡ entries → length marks ≡ n → place ≡ at l → at l < 2 * n → q ≡ opposite_place (at l)
@@ -77,9 +77,9 @@ kept_left {L} at values marks xs capacity q l k eq =
     let grown : map at (xs ++ l ∷ []) ≡ map at xs ++ p ∷ [] = map-append at xs (l ∷ []) in
     let longer : length (xs ++ l ∷ []) ≡ length xs + 1 = length-append xs (l ∷ []) in
     let away : (i : ℕ) (d : L) → i < length xs → at (get_or xs i d) / 2 ≢ p / 2 = λ i d lt e.
-      (let a = get_or_append_left xs (l ∷ []) d i lt in
-      let b : get_or (xs ++ l ∷ []) (length xs) d ≡ l = get_or_at xs l [] d (length xs) refl in
-      k.apart i (length xs) d lt (omega (arith, longer)) (ap (λ x. at x / 2) a ∙ e ∙ sym (ap (λ x. at x / 2) b))) in
+    (let a = get_or_append_left xs (l ∷ []) d i lt in
+    let b : get_or (xs ++ l ∷ []) (length xs) d ≡ l = get_or_at xs l [] d (length xs) refl in
+    k.apart i (length xs) d lt (omega (arith, longer)) (ap (λ x. at x / 2) a ∙ e ∙ sym (ap (λ x. at x / 2) b))) in
     let no_p : is_true (map at xs) p ≡ false = absent at xs p p refl away in
     let no_q : is_true (map at xs) q ≡ false = absent at xs p q (ap (λ n. n / 2) eq ∙ same_half p) away in
     let past : (x : ℕ) → p ≢ x → is_true (map at (xs ++ l ∷ [])) x ≡ is_true (map at xs) x = λ x ne. ap (λ s. is_true s x) grown ∙ more_true (map at xs) p x ∙ ap (λ b. is_true (map at xs) x || (b || false)) (not_eqb p x ne) ∙ or_none (is_true (map at xs) x) in
@@ -90,23 +90,23 @@ kept_left {L} at values marks xs capacity q l k eq =
       sizes = simp length-set k.sizes;
       inside = λ i d lt. (let h = k.inside i d (omega (arith, lt, longer)) in let a = ap at (get_or_append_left xs (l ∷ []) d i lt) in omega (arith, h, a, size));
       apart = λ i j d lij lj e. (let a = get_or_append_left xs (l ∷ []) d i (omega (arith, lij, lj)) in let b = get_or_append_left xs (l ∷ []) d j lj in
-        k.apart i j d lij (omega (arith, lj, longer)) (ap (λ x. at x / 2) a ∙ e ∙ sym (ap (λ x. at x / 2) b)));
+          k.apart i j d lij (omega (arith, lj, longer)) (ap (λ x. at x / 2) a ∙ e ∙ sym (ap (λ x. at x / 2) b)));
       trues = λ x h. (let hx : x < length values = omega (arith, h, size) in
-        elim (cases_eq x q) [
-          inl isq ↦ ap (λ v. v == 1) (at_q x hx isq) ∙ sym (ap (is_true (map at xs)) isq ∙ no_q)
-        | inr nq ↦ (elim (cases_eq x p) [
-              inl isp ↦ ap (λ v. v == 1) (at_p x hx nq isp) ∙ sym (ap (is_true (map at xs)) isp ∙ no_p)
-            | inr np ↦ ap (λ v. v == 1) (at_x x nq np) ∙ k.trues x hx ∙ past x (λ e. np (sym e))
+          elim (cases_eq x q) [
+            | inl isq ↦ ap (λ v. v == 1) (at_q x hx isq) ∙ sym (ap (is_true (map at xs)) isq ∙ no_q)
+            | inr nq ↦ (elim (cases_eq x p) [
+              | inl isp ↦ ap (λ v. v == 1) (at_p x hx nq isp) ∙ sym (ap (is_true (map at xs)) isp ∙ no_p)
+              | inr np ↦ ap (λ v. v == 1) (at_x x nq np) ∙ k.trues x hx ∙ past x (λ e. np (sym e))
             ])
-        ]);
+          ]);
       falses = λ x h. (let hx : x < length values = omega (arith, h, size) in
-        elim (cases_eq x q) [
-          inl isq ↦ ap (λ v. v == 2) (at_q x hx isq) ∙ sym (ap (is_true (map at xs)) (ap opposite_place (isq ∙ eq) ∙ twice p) ∙ no_p)
-        | inr nq ↦ (elim (cases_eq x p) [
-              inl isp ↦ ap (λ v. v == 2) (at_p x hx nq isp) ∙ sym (ap (is_true (map at xs)) (ap opposite_place isp ∙ sym eq) ∙ no_q)
-            | inr np ↦ ap (λ v. v == 2) (at_x x nq np) ∙ k.falses x hx ∙ past (opposite_place x) (λ e. nq (sym (twice x) ∙ sym (ap opposite_place e) ∙ sym eq))
+          elim (cases_eq x q) [
+            | inl isq ↦ ap (λ v. v == 2) (at_q x hx isq) ∙ sym (ap (is_true (map at xs)) (ap opposite_place (isq ∙ eq) ∙ twice p) ∙ no_p)
+            | inr nq ↦ (elim (cases_eq x p) [
+              | inl isp ↦ ap (λ v. v == 2) (at_p x hx nq isp) ∙ sym (ap (is_true (map at xs)) (ap opposite_place isp ∙ sym eq) ∙ no_q)
+              | inr np ↦ ap (λ v. v == 2) (at_x x nq np) ∙ k.falses x hx ∙ past (opposite_place x) (λ e. nq (sym (twice x) ∙ sym (ap opposite_place e) ∙ sym eq))
             ])
-        ]);
+          ]);
       room = k.room;
       within = omega arith;
     }
@@ -145,13 +145,16 @@ keeps_undone {L} at values values' raw marks order order' capacity capacity' tak
     let all = length-map order (entry_of at marks) in
     let P : List L → Type 0 = λ xs. Keeps at values' marks xs capacity' taken' level' in
     let Q : List (Entry L) → Type 0 = λ xs. IsLeveled xs level' in
-    let R : List ℕ → Type 0 = λ vs. Keeps at vs marks order' capacity' taken' level' in
-    (subst R (sym er) (subst P (sym eo) (record {
-      kept = kept_free at values' marks (take n order) (length marks) 0 capacity' taken' kept (omega (arith, k.kept.room, wide)) (omega (arith, et, size));
-      leveled = subst Q (sym short) (leveled_cut (entries_of at marks order) level level' n k.leveled le (omega (arith, all, ln)) is);
-      few = k.few;
-      reasons = k.reasons;
-    })), ap (entries_of at marks) eo ∙ short ∙ sym is, et ∙ ap (min taken) (sym (ap length is ∙ length-take-le n (entries_of at marks order) (omega (arith, all, ln)))))
+    let R : List ℕ → Type 0 = λ vs. Keeps at vs marks order' capacity' taken' level' in (
+      subst R (sym er) (subst P (sym eo) (record {
+        kept = kept_free at values' marks (take n order) (length marks) 0 capacity' taken' kept (omega (arith, k.kept.room, wide)) (omega (arith, et, size));
+        leveled = subst Q (sym short) (leveled_cut (entries_of at marks order) level level' n k.leveled le (omega (arith, all, ln)) is);
+        few = k.few;
+        reasons = k.reasons;
+      })),
+      ap (entries_of at marks) eo ∙ short ∙ sym is,
+      et ∙ ap (min taken) (sym (ap length is ∙ length-take-le n (entries_of at marks order) (omega (arith, all, ln)))),
+    )
 
 pub order_now : {L : Type 0} (at : L → ℕ) (marks : List Mark) (xs ys : List L) (entries : List (Entry L)) → entries_of at marks xs ≡ entries → ys ≡ xs → ys ≡ order entries
 order_now at marks xs ys entries e is = is ∙ sym (order_is at marks xs) ∙ ap order e
@@ -182,10 +185,10 @@ pub above_turn : {L : Type 0} (at : L → ℕ) (marks : List Mark) (order : List
     → ((i : ℕ) (d : Entry L) → n ≤ i → i < length order → level < (get_or (entries_of at marks order) i d).level)
     → ((i : ℕ) (d : Entry L) → m ≤ i → i < length order → level < (get_or (entries_of at marks order) i d).level)
 above_turn {L} at marks order n m v level l x e some le read same inside is low old i d li lt = elim (cases_eq i m) [
-      inl top ↦ (let here = entry_at at marks order m v l x d (omega (arith, e, some, le)) read same inside is in
-        let there = ap (λ j. (get_or (entries_of at marks order) j d).level) top in omega (arith, here, there, low))
-    | inr other ↦ old i d (omega (arith, li, other, e, some)) lt
-    ]
+  | inl top ↦ (let here = entry_at at marks order m v l x d (omega (arith, e, some, le)) read same inside is in
+      let there = ap (λ j. (get_or (entries_of at marks order) j d).level) top in omega (arith, here, there, low))
+  | inr other ↦ old i d (omega (arith, li, other, e, some)) lt
+]
 
 pub clear_ends : {L : Type 0} (at : L → ℕ) (marks : List Mark) (order : List L) (n m v level : ℕ) (l : L) (x : Mark) → m ≡ n - 1 → 0 < n → n ≤ length order → l ≡ get_or order m l → v ≡ at l / 2 → v < length marks → x ≡ get_or marks v x → x.level ≤ level
     → ((i : ℕ) (d : Entry L) → n ≤ i → i < length order → level < (get_or (entries_of at marks order) i d).level)
@@ -194,10 +197,10 @@ pub clear_ends : {L : Type 0} (at : L → ℕ) (marks : List Mark) (order : List
 clear_ends {L} at marks order n m v level l x e some le read same inside is low above sorted =
     let all = length-map order (entry_of at marks) in
     cut_is (entries_of at marks order) n level (omega (arith, all, le)) (λ i d lt. (let here = entry_at at marks order m v l x d (omega (arith, e, some, le)) read same inside is in
-      elim (cases_eq i m) [
-        inl top ↦ (let there = ap (λ j. (get_or (entries_of at marks order) j d).level) top in omega (arith, here, there, low))
+    elim (cases_eq i m) [
+      | inl top ↦ (let there = ap (λ j. (get_or (entries_of at marks order) j d).level) top in omega (arith, here, there, low))
       | inr other ↦ (let s = sorted i m d (omega (arith, lt, other, e)) (omega (arith, e, some, le)) in omega (arith, s, here, low))
-      ])) (λ i d ln lt. above i d ln (omega (arith, lt, all)))
+    ])) (λ i d ln lt. above i d ln (omega (arith, lt, all)))
 
 pub clear_whole : {L : Type 0} (at : L → ℕ) (marks : List Mark) (order : List L) (n level : ℕ) → n ≤ 0
     → ((i : ℕ) (d : Entry L) → n ≤ i → i < length order → level < (get_or (entries_of at marks order) i d).level)
@@ -244,10 +247,10 @@ unset_entry {L} at es v i d none' lt is =
     let set : is_true (places at es) p ≡ true = in_places at es i d lt in
     let both = value_none (places at es) (2 * v) none' in
     elim (cases_eq (p % 2) 0) [
-      inl even ↦ (let e : p ≡ 2 * v = omega (arith, even, is) in false≢true (sym both.0 ∙ ap (is_true (places at es)) (sym e) ∙ set))
-    | inr odd ↦ (let e : p ≡ 2 * v + 1 = omega (arith, odd, is) in
-        let o : opposite_place (2 * v) ≡ 2 * v + 1 = grind (arith, nat_tests) in
-        false≢true (sym both.1 ∙ ap (is_true (places at es)) (o ∙ sym e) ∙ set))
+      | inl even ↦ (let e : p ≡ 2 * v = omega (arith, even, is) in false≢true (sym both.0 ∙ ap (is_true (places at es)) (sym e) ∙ set))
+      | inr odd ↦ (let e : p ≡ 2 * v + 1 = omega (arith, odd, is) in
+          let o : opposite_place (2 * v) ≡ 2 * v + 1 = grind (arith, nat_tests) in
+          false≢true (sym both.1 ∙ ap (is_true (places at es)) (o ∙ sym e) ∙ set))
     ]
 
 -- what a test for None says of the value
@@ -258,3 +261,16 @@ unset value (Some x) b e is h = absurd (false≢true (sym (is ∙ ap not h)))
 pub not_unset : (value read : Option Bool) (b : Bool) → read ≡ value → value ≡ None → is_some read ≡ not b → b ≡ false → ⊥
 not_unset value None b e none' is h = false≢true (is ∙ ap not h)
 not_unset value (Some x) b e none' is h = cc
+
+pub empty_is : {L : Type 0} (at : L → ℕ) (t : Assignment L) (variables : ℕ) → t ≡ empty_trail variables → variables ≤ 2147483647 → IsTrail at t
+empty_is {L} at t variables is few =
+    let P : Assignment L → Type 0 = λ u. IsTrail at u in
+    subst P (sym is) (record {
+      inside = λ i d lt. absurd (omega (arith, lt));
+      leveled = record { sorted = λ i j d lij lj. absurd (omega (arith, lj)); below = λ i d lt. absurd (omega (arith, lt)); begun = λ k lk. omega (arith, lk) };
+      within = omega arith;
+      few = few;
+      low = omega arith;
+      short = omega arith;
+      apart = λ i j d lij lj. absurd (omega (arith, lj));
+    })

@@ -62,10 +62,11 @@ visit_moved {L} at cs cs' chains chains' t s id side j clause to h seat waits ei
     let free : is_false (places at t.entries) (at to) ≡ false = ap (λ l. is_false (places at t.entries) (at l)) read ∙ open' to in
     let P : List (List ℕ) → Type 0 = λ ds. IsPropagating at ds chains' t in
     let Q : List (List ℕ) → Type 0 = λ ds. IsPropagating at (F (s / 2) (s % 2)) ds t in
-    let R : List (List ℕ) → Type 0 = λ ds. Propagates at C t ds t in
-    (subst P (sym is) (subst Q (sym eh) (record { covers = covers_moved true at C chains t s j (at to) h.covers seat.known far (omega (arith, n, lj)) (sym here) free isfalse; current = h.current })),
-     subst R (sym is) (goes_order at C (F (s / 2) (s % 2)) t (only_swapped C (s / 2) (s % 2) j seat.known (omega (arith, seat.long)) (omega (arith, n, lj)))),
-     λ e. false≢true (sym free ∙ ap (is_false (places at t.entries)) e ∙ isfalse))
+    let R : List (List ℕ) → Type 0 = λ ds. Propagates at C t ds t in (
+      subst P (sym is) (subst Q (sym eh) (record { covers = covers_moved true at C chains t s j (at to) h.covers seat.known far (omega (arith, n, lj)) (sym here) free isfalse; current = h.current })),
+      subst R (sym is) (goes_order at C (F (s / 2) (s % 2)) t (only_swapped C (s / 2) (s % 2) j seat.known (omega (arith, seat.long)) (omega (arith, n, lj)))),
+      λ e. false≢true (sym free ∙ ap (is_false (places at t.entries)) e ∙ isfalse),
+    )
 
 pub visit_place : {L : Type 0} (at : L → ℕ) (cs : List (List L)) (chains : List (List ℕ)) (t : Assignment L) (s id j : ℕ) (clause : List L) (to : L) → IsPropagating at (placed at cs) chains t → id ≡ s / 2 → clause ≡ get_or cs id [] → j < length clause → to ≡ get_or clause j to → at to < length chains
 visit_place at cs chains t s id j clause to h ei ec lj read =
@@ -87,9 +88,9 @@ visit_false at cs chains t s id side clause other seat waits ei es ec rest read 
     let xs : List ℕ = clause_of (placed at cs) s in
     let o = (visit_other at cs s id side clause other ei es ec seat read).0 in
     all_false (places at t.entries) xs (λ i lt. elim (cases_eq i (1 - side)) [
-        inl same ↦ ap (λ k. is_false (places at t.entries) (get_or xs k 0)) same ∙ ap (λ k. is_false (places at t.entries) (get_or xs (1 - k) 0)) es ∙ ap (is_false (places at t.entries)) o ∙ isfalse
+      | inl same ↦ ap (λ k. is_false (places at t.entries) (get_or xs k 0)) same ∙ ap (λ k. is_false (places at t.entries) (get_or xs (1 - k) 0)) es ∙ ap (is_false (places at t.entries)) o ∙ isfalse
       | inr ne ↦ visit_rest at cs chains t s id side clause other seat waits ei es ec rest i lt ne
-      ])
+    ])
 
 pub visit_assigned : {L : Type 0} (at : L → ℕ) (cs : List (List L)) (chains : List (List ℕ)) (t t' : Assignment L) (s id side : ℕ) (clause : List L) (other : L) → IsPropagating at (placed at cs) chains t → IsSeat (placed at cs) s → is_false (places at (waiting t)) (watched_at (placed at cs) s) ≡ true
     → id ≡ s / 2 → side ≡ s % 2 → clause ≡ get_or cs id [] → ((j : ℕ) (l : L) → 2 ≤ j → j < length clause → is_false (places at t.entries) (at (get_or clause j l)) ≡ true) → other ≡ get_or clause (1 - side) other → is_true (places at t.entries) (at other) ≡ false
@@ -104,11 +105,12 @@ visit_assigned {L} at cs chains t t' s id side clause other h seat waits ei es e
     let Q : Assignment L → Type 0 = λ u. Propagates at C t C u in
     let R : Assignment L → Type 0 = λ u. HasTrue (places at u.entries) xs in
     let T : Assignment L → Type 0 = λ u. IsTrail at u in
-    let grown : places at (t.entries ++ record { literal = other; level = t.level; reason = Some (s / 2) } ∷ []) ≡ places at t.entries ++ at other ∷ [] = map-append (λ (e : Entry L). at e.literal) t.entries (record { literal = other; level = t.level; reason = Some (s / 2) } ∷ []) in
-    (subst P (sym is) (going_assigned at C chains t other (Some (s / 2)) h (subst T is trail) free),
-     subst Q (sym is) (goes_assigned at C t other (s / 2) seat.known o.1 (λ x m ne. (let e : get_or xs m.0 0 ≡ x = get_or_default xs m.0 0 x m.1 ∙ m.2 in
-       ap (is_false (places at t.entries)) (sym e) ∙ visit_rest at cs chains t s id side clause other seat waits ei es ec rest m.0 m.1 (λ same. ne (sym e ∙ ap (λ k. get_or xs k 0) same ∙ ap (λ k. get_or xs (1 - k) 0) es ∙ o.0))))),
-     subst R (sym is) (at other, o.1, ap (λ (ys : List ℕ). is_true ys (at other)) grown ∙ now_true (places at t.entries) (at other)))
+    let grown : places at (t.entries ++ record { literal = other; level = t.level; reason = Some (s / 2) } ∷ []) ≡ places at t.entries ++ at other ∷ [] = map-append (λ (e : Entry L). at e.literal) t.entries (record { literal = other; level = t.level; reason = Some (s / 2) } ∷ []) in (
+      subst P (sym is) (going_assigned at C chains t other (Some (s / 2)) h (subst T is trail) free),
+      subst Q (sym is) (goes_assigned at C t other (s / 2) seat.known o.1 (λ x m ne. (let e : get_or xs m.0 0 ≡ x = get_or_default xs m.0 0 x m.1 ∙ m.2 in
+          ap (is_false (places at t.entries)) (sym e) ∙ visit_rest at cs chains t s id side clause other seat waits ei es ec rest m.0 m.1 (λ same. ne (sym e ∙ ap (λ k. get_or xs k 0) same ∙ ap (λ k. get_or xs (1 - k) 0) es ∙ o.0))))),
+      subst R (sym is) (at other, o.1, ap (λ (ys : List ℕ). is_true ys (at other)) grown ∙ now_true (places at t.entries) (at other)),
+    )
 
 -- what is true stays true
 prefix_true : {L : Type 0} (at : L → ℕ) (n : ℕ) (es : List (Entry L)) (l : ℕ) → is_true (places at (take n es)) l ≡ true → is_true (places at es) l ≡ true
@@ -120,9 +122,11 @@ prefix_true at (suc n) (e ∷ es) l h = either (at e.literal == l) (is_true (pla
   either false b c f h = f h
 
 pub has_goes : {L : Type 0} (at : L → ℕ) (clauses clauses' : List (List ℕ)) (t t' : Assignment L) (s : ℕ) → Propagates at clauses t clauses' t' → HasTrue (places at t.entries) (clause_of clauses s) → HasTrue (places at t'.entries) (clause_of clauses' s)
-has_goes {L} at clauses clauses' t t' s go (l, has, tr) =
-    (l, Contains-permutation (clause_of clauses s) (clause_of clauses' s) l (go.order.same (s / 2)) has,
-     prefix_true at (length t.entries) t'.entries l (ap (λ (es : List (Entry L)). is_true (places at es) l) go.kept ∙ tr))
+has_goes {L} at clauses clauses' t t' s go (l, has, tr) = (
+  l,
+  Contains-permutation (clause_of clauses s) (clause_of clauses' s) l (go.order.same (s / 2)) has,
+  prefix_true at (length t.entries) t'.entries l (ap (λ (es : List (Entry L)). is_true (places at es) l) go.kept ∙ tr),
+)
 
 pub walk_seat : (set : List ℕ) (clauses : List (List ℕ)) (chain : List ℕ) (current : Option ℕ) (done rest : List ℕ) (most looks s : ℕ) → IsWalking set clauses chain current done rest most looks → current ≡ Some s → Contains chain s × (rest ≡ s ∷ drop 1 rest)
 walk_seat set clauses chain current done [] most looks s w e = absurd (no s (sym e ∙ w.head)) where
@@ -145,9 +149,9 @@ others_mid : (s : ℕ) (done r : List ℕ) → ((j : ℕ) → j < length (done +
 others_mid s [] r once =
     ap (λ b. cond (not b) (s ∷ others s r) (others s r)) (eq-eqb s s refl) ∙ no_other s r (λ j lt h. (let z : 0 ≡ suc j = once (suc j) (omega (arith, lt)) h in omega (arith, z)))
 others_mid s (x ∷ done) r once = elim (eqb_tells x s) [
-      inl same ↦ absurd (let z : suc (length done) ≡ 0 = once 0 (omega arith) same.1 in omega (arith, z))
-    | inr other ↦ ap (λ b. cond (not b) (x ∷ others s (done ++ s ∷ r)) (others s (done ++ s ∷ r))) other.0 ∙ ap (λ ys. x ∷ ys) (others_mid s done r (λ j lt h. (let z : suc (length done) ≡ suc j = once (suc j) (omega (arith, lt)) h in omega (arith, z))))
-    ]
+  | inl same ↦ absurd (let z : suc (length done) ≡ 0 = once 0 (omega arith) same.1 in omega (arith, z))
+  | inr other ↦ ap (λ b. cond (not b) (x ∷ others s (done ++ s ∷ r)) (others s (done ++ s ∷ r))) other.0 ∙ ap (λ ys. x ∷ ys) (others_mid s done r (λ j lt h. (let z : suc (length done) ≡ suc j = once (suc j) (omega (arith, lt)) h in omega (arith, z))))
+]
 
 turn : {L : Type 0} (at : L → ℕ) (C C' chains chains' : List (List ℕ)) (t t' : Assignment L) (p s : ℕ) (next : Option ℕ) (done r : List ℕ) (most looks looks' : ℕ) (v : Visit) → AreApart chains
     → chain_at chains p ≡ done ++ s ∷ r → ((u : ℕ) → Contains done u → HasTrue (places at t.entries) (clause_of C u)) → looks + suc (length r) ≡ most
@@ -166,23 +170,30 @@ turn {L} at C C' chains chains' t t' p s next done r most looks looks' v apart s
   where
     cases : (v : Visit) → Visited at C chains t C' chains' t' s v → (v ≡ False → ⊥) → next ≡ slice_get r 0 → ((u : ℕ) → Contains done u → HasTrue (places at t'.entries) (clause_of C' u)) → length done < length (chain_at chains p) → get_or (chain_at chains p) (length done) 0 ≡ s
         → (done' : List ℕ) × (rest' : List ℕ) × IsWalking (places at t'.entries) C' (chain_at chains' p) next done' rest' most looks'
-    cases Stays out nf head kept lt here = (done ++ s ∷ [], r, record {
+    cases Stays out nf head kept lt here = (
+      done ++ s ∷ [],
+      r,
+      record {
         split = ap (λ (cs : List (List ℕ)). chain_at cs p) out.0 ∙ split ∙ sym (append_assoc done (s ∷ []) r);
         head = head;
         held = λ u h. elim (Contains-push_cases done s u h) [
-            inl old ↦ kept u old
+          | inl old ↦ kept u old
           | inr new ↦ (let P : ℕ → Type 0 = λ y. HasTrue (places at t'.entries) (clause_of C' y) in subst P new out.1)
-          ];
+        ];
         cost = omega (arith, cost, more);
-      })
+      },
+    )
     cases Moved out nf head kept lt here =
-      (let left : chain_at chains' p ≡ others s (chain_at chains p) = ap (λ (cs : List (List ℕ)). chain_at cs p) out.2 ∙ get_or-set_other (taken_out chains s) out.0 p (s ∷ chain_at (taken_out chains s) out.0) [] (λ e. out.1 (sym e ∙ sym sees)) ∙ chain_taken chains s p in
-      (done, r, record {
-        split = left ∙ ap (others s) split ∙ others_mid s done r (λ j lj h. (apart p (length done) p j lt (let k = ap length split in omega (arith, k, lj)) (here ∙ sym (ap (λ (ys : List ℕ). get_or ys j 0) split ∙ h))).1);
-        head = head;
-        held = kept;
-        cost = omega (arith, cost, more);
-      }))
+        (let left : chain_at chains' p ≡ others s (chain_at chains p) = ap (λ (cs : List (List ℕ)). chain_at cs p) out.2 ∙ get_or-set_other (taken_out chains s) out.0 p (s ∷ chain_at (taken_out chains s) out.0) [] (λ e. out.1 (sym e ∙ sym sees)) ∙ chain_taken chains s p in (
+          done,
+          r,
+          record {
+            split = left ∙ ap (others s) split ∙ others_mid s done r (λ j lj h. (apart p (length done) p j lt (let k = ap length split in omega (arith, k, lj)) (here ∙ sym (ap (λ (ys : List ℕ). get_or ys j 0) split ∙ h))).1);
+            head = head;
+            held = kept;
+            cost = omega (arith, cost, more);
+          },
+        ))
     cases False out nf head kept lt here = absurd (nf refl)
 
 pub walk_turn : {L : Type 0} (at : L → ℕ) (C C' chains chains' : List (List ℕ)) (t t' : Assignment L) (p s : ℕ) (current next : Option ℕ) (most looks looks' : ℕ) (v : Visit) → AreApart chains
@@ -223,8 +234,10 @@ pub first_is : {L : Type 0} (t : Assignment L) (l : L) (d : Entry L) → Some l 
 first_is {L} t l d h = go t.taken t.entries h where
   same : (y : L) (ys : List L) → Some l ≡ slice_get (y ∷ ys) 0 → y ≡ l
   same y ys h = cc
+
   no : (n : ℕ) → Some l ≡ slice_get (order {L = L} []) 0 → ⊥
   no n h = cc
+
   go : (n : ℕ) (es : List (Entry L)) → Some l ≡ slice_get (order (drop n es)) 0 → (n < length es) × ((get_or es n d).literal ≡ l)
   go zero [] h = absurd (no 0 h)
   go (suc n) [] h = absurd (no n h)
@@ -241,9 +254,9 @@ none_waits {L} t h = go (waiting t) h where
 
 pub opposite_low : (p n : ℕ) → p < 2 * n → opposite_place p < 2 * n
 opposite_low p n h = elim (eqb_tells (p % 2) 0) [
-      inl even ↦ (let up : opposite_place p ≡ p + 1 = ap (λ b. cond b (p + 1) (p - 1)) even.0 in omega (arith, up, even.1, h))
-    | inr odd ↦ (let down : opposite_place p ≡ p - 1 = ap (λ b. cond b (p + 1) (p - 1)) odd.0 in omega (arith, down, h))
-    ]
+  | inl even ↦ (let up : opposite_place p ≡ p + 1 = ap (λ b. cond b (p + 1) (p - 1)) even.0 in omega (arith, up, even.1, h))
+  | inr odd ↦ (let down : opposite_place p ≡ p - 1 = ap (λ b. cond b (p + 1) (p - 1)) odd.0 in omega (arith, down, h))
+]
 
 -- a literal has been taken in, after its walk
 pub walked_taken : {L : Type 0} (at : L → ℕ) (C0 C C' chains' : List (List ℕ)) (t0 t t' t'' : Assignment L) (l : L) (q : ℕ) → Propagates at C0 t0 C t → IsPropagating at C' chains' t' → Propagates at C t C' t' → t'.taken ≡ t.taken → Some l ≡ slice_get (order (waiting t)) 0 → opposite_place q ≡ at l → AllWalked (places at t'.entries) C' q → t'' ≡ one_taken t'
@@ -255,9 +268,11 @@ walked_taken {L} at C0 C C' chains' t0 t t' t'' l q go0 h go et first eq walked 
     let e : Entry L = get_or t'.entries t'.taken d in
     let same : e.literal ≡ l = ap (λ n. (get_or t'.entries n d).literal) et ∙ ap (λ (x : Entry L). x.literal) (sym (get_or-take (length t.entries) t'.entries t.taken d f.0) ∙ ap (λ (es : List (Entry L)). get_or es t.taken d) go.kept) ∙ f.1 in
     let P : Assignment L → Type 0 = λ u. IsPropagating at C' chains' u × Propagates at C0 t0 C' u in
-    subst P (sym is) (going_taken at C' chains' t' e (drop (t'.taken + 1) t'.entries) h (drop_more t'.entries t'.taken d lt) lt
-        (λ s known long sees. walked s known long (sym (twice (watched_at C' s)) ∙ ap opposite_place (sees ∙ ap at same ∙ sym eq) ∙ twice q)),
-      goes_trans at C0 C' C' t0 t' (one_taken t') (goes_trans at C0 C C' t0 t t' go0 go) (goes_taken at C' t'))
+    subst P (sym is) (
+      going_taken at C' chains' t' e (drop (t'.taken + 1) t'.entries) h (drop_more t'.entries t'.taken d lt) lt
+          (λ s known long sees. walked s known long (sym (twice (watched_at C' s)) ∙ ap opposite_place (sees ∙ ap at same ∙ sym eq) ∙ twice q)),
+      goes_trans at C0 C' C' t0 t' (one_taken t') (goes_trans at C0 C C' t0 t t' go0 go) (goes_taken at C' t'),
+    )
 
 -- what waits goes on waiting
 waits_longer : {L : Type 0} (at : L → ℕ) (n m : ℕ) (es : List (Entry L)) (l : ℕ) → is_true (places at (drop n (take m es))) l ≡ true → is_true (places at (drop n es)) l ≡ true

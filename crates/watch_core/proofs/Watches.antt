@@ -19,9 +19,9 @@ in_others s t [] has = absurd (omega (arith, has.1))
 in_others s t (x ∷ xs) has =
     let P : List ℕ → Type 0 = λ ys. Contains ys t in
     elim (eqb_tells x s) [
-      inl same ↦ (let rest = in_others s t xs (subst P (ap (λ b. cond (not b) (x ∷ others s xs) (others s xs)) same.0) has) in
-        ((suc rest.0.0, omega (arith, rest.0.1), rest.0.2), rest.1))
-    | inr other ↦ kept_first s t x xs (others s xs) other.1 (in_others s t xs) (subst P (ap (λ b. cond (not b) (x ∷ others s xs) (others s xs)) other.0) has)
+      | inl same ↦ (let rest = in_others s t xs (subst P (ap (λ b. cond (not b) (x ∷ others s xs) (others s xs)) same.0) has) in
+          ((suc rest.0.0, omega (arith, rest.0.1), rest.0.2), rest.1))
+      | inr other ↦ kept_first s t x xs (others s xs) other.1 (in_others s t xs) (subst P (ap (λ b. cond (not b) (x ∷ others s xs) (others s xs)) other.0) has)
     ]
 
 to_first : (s t x : ℕ) (xs ys : List ℕ) → t ≢ s → (Contains xs t → Contains ys t) → Contains (x ∷ xs) t → (x ≡ t) ⊎ Contains ys t
@@ -33,19 +33,19 @@ others_in s t [] ne has = has
 others_in s t (x ∷ xs) ne has =
     let P : List ℕ → Type 0 = λ ys. Contains ys t in
     elim (eqb_tells x s) [
-      inl same ↦ subst P (sym (ap (λ b. cond (not b) (x ∷ others s xs) (others s xs)) same.0)) (elim (to_first s t x xs (others s xs) ne (others_in s t xs ne) has) [ inl here ↦ absurd (ne (sym here ∙ same.1)) | inr later ↦ later ])
-    | inr other ↦ subst P (sym (ap (λ b. cond (not b) (x ∷ others s xs) (others s xs)) other.0)) (elim (to_first s t x xs (others s xs) ne (others_in s t xs ne) has) [
-          inl here ↦ (zero, omega arith, here)
+      | inl same ↦ subst P (sym (ap (λ b. cond (not b) (x ∷ others s xs) (others s xs)) same.0)) (elim (to_first s t x xs (others s xs) ne (others_in s t xs ne) has) [ inl here ↦ absurd (ne (sym here ∙ same.1)) | inr later ↦ later ])
+      | inr other ↦ subst P (sym (ap (λ b. cond (not b) (x ∷ others s xs) (others s xs)) other.0)) (elim (to_first s t x xs (others s xs) ne (others_in s t xs ne) has) [
+        | inl here ↦ (zero, omega arith, here)
         | inr later ↦ (suc later.0, omega (arith, later.1), later.2)
-        ])
+      ])
     ]
 
 pub chain_taken : (chains : List (List ℕ)) (s p : ℕ) → chain_at (taken_out chains s) p ≡ others s (chain_at chains p)
 chain_taken chains s p =
     elim (cases_lt p (length chains)) [
-      inl lt ↦ get_or-map (others s) chains p [] [] lt
-    | inr past ↦ (let size : length (taken_out chains s) ≡ length chains = length-map chains (others s) in
-        get_or_past (taken_out chains s) p [] (omega (arith, size, past)) ∙ sym (ap (others s) (get_or_past chains p [] past)))
+      | inl lt ↦ get_or-map (others s) chains p [] [] lt
+      | inr past ↦ (let size : length (taken_out chains s) ≡ length chains = length-map chains (others s) in
+          get_or_past (taken_out chains s) p [] (omega (arith, size, past)) ∙ sym (ap (others s) (get_or_past chains p [] past)))
     ]
 
 pub swap_other : (xs : List ℕ) (a b i : ℕ) → a < length xs → b < length xs → i ≢ a → i ≢ b → get_or (swap xs a b) i 0 ≡ get_or xs i 0
@@ -68,17 +68,17 @@ same_watch clauses s j t known far lj ne =
     let clauses' : List (List ℕ) = set clauses c ys in
     let la : s % 2 < length xs = omega (arith, far, lj) in
     elim (cases_eq (t / 2) c) [
-      inl same ↦ (let mine : get_or clauses' (t / 2) [] ≡ ys = ap (λ k. get_or clauses' k []) same ∙ get_or-set_same clauses c ys [] known in
-        let old : get_or clauses (t / 2) [] ≡ xs = ap (λ k. get_or clauses k []) same in
-        let na : t % 2 ≢ s % 2 = λ e. ne (omega (arith, same, e)) in
-        let nb : t % 2 ≢ j = λ e. omega (arith, e, far) in
-        record {
-          count = length-set clauses c ys;
-          size = ap length mine ∙ length-swap xs (s % 2) j ∙ sym (ap length old);
-          at = ap (λ zs. get_or zs (t % 2) 0) mine ∙ swap_other xs (s % 2) j (t % 2) la lj na nb ∙ sym (ap (λ zs. get_or zs (t % 2) 0) old);
-        })
-    | inr other ↦ (let e : get_or clauses' (t / 2) [] ≡ get_or clauses (t / 2) [] = get_or-set_other clauses c (t / 2) ys [] other in
-        record { count = length-set clauses c ys; size = ap length e; at = ap (λ zs. get_or zs (t % 2) 0) e })
+      | inl same ↦ (let mine : get_or clauses' (t / 2) [] ≡ ys = ap (λ k. get_or clauses' k []) same ∙ get_or-set_same clauses c ys [] known in
+          let old : get_or clauses (t / 2) [] ≡ xs = ap (λ k. get_or clauses k []) same in
+          let na : t % 2 ≢ s % 2 = λ e. ne (omega (arith, same, e)) in
+          let nb : t % 2 ≢ j = λ e. omega (arith, e, far) in
+          record {
+            count = length-set clauses c ys;
+            size = ap length mine ∙ length-swap xs (s % 2) j ∙ sym (ap length old);
+            at = ap (λ zs. get_or zs (t % 2) 0) mine ∙ swap_other xs (s % 2) j (t % 2) la lj na nb ∙ sym (ap (λ zs. get_or zs (t % 2) 0) old);
+          })
+      | inr other ↦ (let e : get_or clauses' (t / 2) [] ≡ get_or clauses (t / 2) [] = get_or-set_other clauses c (t / 2) ys [] other in
+          record { count = length-set clauses c ys; size = ap length e; at = ap (λ zs. get_or zs (t % 2) 0) e })
     ]
 
 watch_to : (clauses clauses' : List (List ℕ)) (p t : ℕ) → SameWatch clauses clauses' t → IsWatch clauses p t → IsWatch clauses' p t
@@ -106,21 +106,21 @@ watches_moved clauses chains s j g w known far lj eg lg =
       known = simp length-set known;
       long = (let e : get_or clauses' (s / 2) [] ≡ ys = get_or-set_same clauses (s / 2) ys [] known in omega (arith, ap length e, length-swap xs (s % 2) j, far, lj));
       at = (let e : get_or clauses' (s / 2) [] ≡ ys = get_or-set_same clauses (s / 2) ys [] known in
-        ap (λ zs. get_or zs (s % 2) 0) e ∙ swap_first xs (s % 2) j (omega (arith, far, lj)) lj (λ e. omega (arith, e, far)) ∙ sym eg);
+          ap (λ zs. get_or zs (s % 2) 0) e ∙ swap_first xs (s % 2) j (omega (arith, far, lj)) lj (λ e. omega (arith, e, far)) ∙ sym eg);
     } in
     let old : (p t : ℕ) → Contains (chain_at rest p) t → IsWatch clauses' p t = λ p t has.
-      (let P : List ℕ → Type 0 = λ zs. Contains zs t in
-      let was = in_others s t (chain_at chains p) (subst P (chain_taken chains s p) has) in
-      watch_to clauses clauses' p t (same_watch clauses s j t known far lj was.1) (w.seats p t was.0)) in
+    (let P : List ℕ → Type 0 = λ zs. Contains zs t in
+    let was = in_others s t (chain_at chains p) (subst P (chain_taken chains s p) has) in
+    watch_to clauses clauses' p t (same_watch clauses s j t known far lj was.1) (w.seats p t was.0)) in
     record {
       seats = λ p t has. elim (cases_eq p g) [
-          inl same ↦ (let Q : ℕ → Type 0 = λ r. IsWatch clauses' r t in let P : List ℕ → Type 0 = λ zs. Contains zs t in
+        | inl same ↦ (let Q : ℕ → Type 0 = λ r. IsWatch clauses' r t in let P : List ℕ → Type 0 = λ zs. Contains zs t in
             let there : Contains (s ∷ chain_at rest g) t = subst P (ap (chain_at chains') same ∙ new) has in
             subst Q (sym same) (head_or clauses' g s t (chain_at rest g) mine (old g t) there))
         | inr other ↦ (let P : List ℕ → Type 0 = λ zs. Contains zs t in old p t (subst P (get_or-set_other rest g p (s ∷ chain_at rest g) [] other) has))
-        ];
+      ];
       watched = λ p t is. elim (cases_eq t s) [
-          inl same ↦ (let R : ℕ → Type 0 = λ u. IsWatch clauses' p u in
+        | inl same ↦ (let R : ℕ → Type 0 = λ u. IsWatch clauses' p u in
             let mineToo : IsWatch clauses' p s = subst R same is in
             let pg : p ≡ g = sym mineToo.at ∙ mine.at in
             let P : List ℕ → Type 0 = λ zs. Contains zs t in
@@ -129,10 +129,10 @@ watches_moved clauses chains s j g w known far lj eg lg =
             let P : List ℕ → Type 0 = λ zs. Contains zs t in
             let left : Contains (chain_at rest p) t = subst P (sym (chain_taken chains s p)) (others_in s t (chain_at chains p) ne was) in
             elim (cases_eq p g) [
-              inl same ↦ (let there : Contains (chain_at rest g) t = subst P (ap (chain_at rest) same) left in subst P (sym (ap (chain_at chains') same ∙ new)) (suc there.0, omega (arith, there.1), there.2))
-            | inr other ↦ subst P (sym (get_or-set_other rest g p (s ∷ chain_at rest g) [] other)) left
+              | inl same ↦ (let there : Contains (chain_at rest g) t = subst P (ap (chain_at rest) same) left in subst P (sym (ap (chain_at chains') same ∙ new)) (suc there.0, omega (arith, there.1), there.2))
+              | inr other ↦ subst P (sym (get_or-set_other rest g p (s ∷ chain_at rest g) [] other)) left
             ])
-        ];
+      ];
     }
 
 -- without the seat a chain has no other seats than before
@@ -140,8 +140,8 @@ pub no_other : (s : ℕ) (xs : List ℕ) → ((j : ℕ) → j < length xs → ge
 no_other s [] h = refl
 no_other s (x ∷ xs) h =
     elim (eqb_tells x s) [
-      inl same ↦ absurd (h 0 (omega arith) same.1)
-    | inr other ↦ ap (λ b. cond (not b) (x ∷ others s xs) (others s xs)) other.0 ∙ ap (λ ys. x ∷ ys) (no_other s xs (λ j lt. h (suc j) (omega (arith, lt))))
+      | inl same ↦ absurd (h 0 (omega arith) same.1)
+      | inr other ↦ ap (λ b. cond (not b) (x ∷ others s xs) (others s xs)) other.0 ∙ ap (λ ys. x ∷ ys) (no_other s xs (λ j lt. h (suc j) (omega (arith, lt))))
     ]
 
 pub head_in : (xs : List ℕ) (s : ℕ) → Some s ≡ slice_get xs 0 → (0 < length xs) × (get_or xs 0 0 ≡ s)

@@ -45,6 +45,7 @@ pub record IsFalseClause (set : List ℕ) (clauses : List (List ℕ)) (id : ℕ)
 -- what it leaves where it met a false clause
 pub record IsInConflict {L : Type 0} (at : L → ℕ) (t : Assignment L) (clauses : List (List ℕ)) (id : ℕ) : Type 0 where
   pub clause : IsFalseClause (places at t.entries) clauses id
+  pub current : All (λ (e : Entry L). e.level ≡ t.level) (waiting t)
   pub below : SettledBelow at t clauses
 
 abbrev pub Outcome : {L : Type 0} → (L → ℕ) → Assignment L → List (List ℕ) → Option ℕ → Type 0

@@ -5,9 +5,7 @@ ghost use Rattle.watch_core.specs.Trail.{Assignment, places};
 ghost use Rattle.watch_core.specs.Added.{CanAdd, standing_of, both_put};
 
 use crate::trail::{Trail, open_place};
-use arena_core::ClauseId;
-use arena_core::Lit;
-use arena_core::{Chains, Seat};
+use arena_core::{Chains, ClauseId, Lit, Seat};
 
 /// How a new clause stands.
 #[derive(Clone, Copy, Debug, PartialEq, Eq)]

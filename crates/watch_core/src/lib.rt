@@ -6,9 +6,8 @@ pub use trail::Trail;
 pub use watched::Watched;
 
 mod added;
+#[cfg(test)]
+mod tests;
 mod trail;
 mod walk;
 mod watched;
-
-#[cfg(test)]
-mod tests;

@@ -4,8 +4,7 @@ ghost use Rattle.watch_core.specs.Places.{is_true, is_false};
 ghost use Rattle.watch_core.specs.Trail.{Assignment, Entry, IsTrail, order, places, cut, waiting, value_of, entered, assigned, decided, undone, one_taken, empty_trail};
 ghost use Rattle.watch_core.specs.Kept.{reason_of, entries_of, entry_of, IsKept};
 
-use arena_core::ClauseId;
-use arena_core::Lit;
+use arena_core::{ClauseId, Lit};
 use std::alloc::{AllocError, Global};
 use std::marker::Model;
 
@@ -223,7 +222,12 @@ impl<L: Lit> Trail<L> {
         ensures value { self.new ≡ undone self.old level }
         ensures kept { IsTrail L.table_place self.new }
     {
-        let size = clear_above(self.values.as_mut_slice(), self.marks.as_slice(), self.order.as_slice(), level);
+        let size = clear_above(
+            self.values.as_mut_slice(),
+            self.marks.as_slice(),
+            self.order.as_slice(),
+            level,
+        );
         self.order.truncate(size);
         self.taken = self.taken.min(size);
         self.level = level;

@@ -9,10 +9,7 @@ ghost use Rattle.watch_core.specs.Looks.{false_occurrences};
 ghost use Rattle.watch_core.specs.Walk.{IsSeat, Visited, AllWalked};
 
 use crate::trail::{Trail, open_place};
-use arena_core::{Arena, ClauseId};
-use arena_core::Lit;
-use arena_core::Steps;
-use arena_core::{Chains, Seat};
+use arena_core::{Arena, Chains, ClauseId, Lit, Seat, Steps};
 use std::sync::ledger::Ledger;
 
 /// What became of a visited seat.
@@ -27,7 +24,13 @@ pub enum Visit {
 }
 
 /// Visits one seat of a literal that became false, at the price of one look.
-fn visit_seat<L: Lit, S: Ledger>(arena: &mut Arena<L>, chains: &mut Chains<L>, trail: &mut Trail<L>, seat: Seat, looks: &mut Steps<S>) -> Visit
+fn visit_seat<L: Lit, S: Ledger>(
+    arena: &mut Arena<L>,
+    chains: &mut Chains<L>,
+    trail: &mut Trail<L>,
+    seat: Seat,
+    looks: &mut Steps<S>,
+) -> Visit
     requires going { IsPropagating L.table_place (placed L.table_place arena.old) chains.old.chains trail.old }
     requires seat { IsSeat (placed L.table_place arena.old) seat }
     requires waits { is_false (places L.table_place (waiting trail.old)) (watched_at (placed L.table_place arena.old) seat) ≡ true }
@@ -59,7 +62,13 @@ fn visit_seat<L: Lit, S: Ledger>(arena: &mut Arena<L>, chains: &mut Chains<L>, t
 }
 
 /// Walks along the chain of a literal that became false.
-fn walk<L: Lit, S: Ledger>(arena: &mut Arena<L>, chains: &mut Chains<L>, trail: &mut Trail<L>, literal: L, looks: &mut Steps<S>) -> Option<ClauseId>
+fn walk<L: Lit, S: Ledger>(
+    arena: &mut Arena<L>,
+    chains: &mut Chains<L>,
+    trail: &mut Trail<L>,
+    literal: L,
+    looks: &mut Steps<S>,
+) -> Option<ClauseId>
     requires going { IsPropagating L.table_place (placed L.table_place arena.old) chains.old.chains trail.old }
     requires waits { is_false (places L.table_place (waiting trail.old)) (L.table_place literal) ≡ true }
     requires place { L.table_place literal < 2 * trail.old.variables }
@@ -83,7 +92,12 @@ fn walk<L: Lit, S: Ledger>(arena: &mut Arena<L>, chains: &mut Chains<L>, trail: 
 }
 
 /// Walks along the chain of the negation of each waiting literal, the oldest first.
-pub(crate) fn propagate_all<L: Lit, S: Ledger>(arena: &mut Arena<L>, chains: &mut Chains<L>, trail: &mut Trail<L>, looks: &mut Steps<S>) -> Option<ClauseId>
+pub(crate) fn propagate_all<L: Lit, S: Ledger>(
+    arena: &mut Arena<L>,
+    chains: &mut Chains<L>,
+    trail: &mut Trail<L>,
+    looks: &mut Steps<S>,
+) -> Option<ClauseId>
     requires going { IsPropagating L.table_place (placed L.table_place arena.old) chains.old.chains trail.old }
     ensures going { IsPropagating L.table_place (placed L.table_place arena.new) chains.new.chains trail.new }
     ensures goes { Propagates L.table_place (placed L.table_place arena.old) trail.old (placed L.table_place arena.new) trail.new }

@@ -1,7 +1,7 @@
-//! Clauses with a trail, and propagation.
-ghost use Rattle.std.specs.Prelude.{◌≡◌, ◌+◌, ◌*◌, ◌<◌, ◌≤◌, List, [], length, map, drop, ◌∷◌, ◌++◌, OnOk, OnErr, Option, None, IfOk, slice_index_or};
+//! Clauses with a trail, and propagation by watched seats.
+ghost use Rattle.std.specs.Prelude.{ℕ, Contains, ◌≡◌, ◌+◌, ◌*◌, ◌<◌, ◌≤◌, List, [], length, map, drop, ◌∷◌, ◌++◌, OnOk, OnErr, Option, None, IfOk, slice_index_or};
 ghost use Rattle.watch_core.specs.Places.{placed};
-ghost use Rattle.watch_core.specs.Trail.{Assignment, places, waiting, value_of, assigned, decided, undone, empty_trail};
+ghost use Rattle.watch_core.specs.Trail.{Assignment, IsTrail, places, waiting, value_of, assigned, decided, undone, empty_trail};
 ghost use Rattle.watch_core.specs.Settled.{CanPropagate, Outcome};
 ghost use Rattle.watch_core.specs.Cover.{Propagates, AreReordered};
 ghost use Rattle.watch_core.specs.Looks.{false_occurrences};
@@ -11,15 +11,14 @@ ghost use Rattle.watch_core.specs.Added.{CanAdd, standing_of};
 use crate::added::{Added, find_standing, link_both};
 use crate::trail::Trail;
 use crate::walk::propagate_all;
-use arena_core::{Arena, ClauseId};
-use arena_core::Lit;
-use arena_core::Steps;
-use arena_core::Chains;
+use arena_core::{Arena, Chains, ClauseId, Lit, Steps};
 use std::alloc::{AllocError, Global};
 use std::marker::Model;
 use std::sync::ledger::Ledger;
 
-/// Clauses, the chains of their first two literals, and a trail.
+/// Clauses, a trail, and for each literal the chain of the seats that watch it.
+///
+/// Each clause of two or more literals watches its first two. Only `new` and `add_clause` take memory.
 #[derive(Drop)]
 pub struct Watched<L: Lit> {
     arena: Arena<L>,
@@ -38,7 +37,7 @@ impl<L: Lit> Model for Watched<L> {
 }
 
 impl<L: Lit> Watched<L> {
-    /// No clauses, and no literals.
+    /// No clauses and no true literals, with room for the variables below `variables`.
     pub fn new(alloc: Global, variables: u32) -> Result<Watched<L>, AllocError>
         requires { variables ≤ 2147483647 }
         ensures clauses { IfOk result (λ w. w.clauses ≡ []) }
@@ -46,7 +45,6 @@ impl<L: Lit> Watched<L> {
     {
         let chains = Chains::new(alloc, variables)?;
         let trail = Trail::new(alloc, variables)?;
-        trail.level();
         Ok(Watched {
             arena: Arena::new(alloc),
             chains,
@@ -54,21 +52,25 @@ impl<L: Lit> Watched<L> {
         })
     }
 
-    /// The trail.
+    /// Lends the trail.
+    #[inline]
     pub fn trail(&self) -> &Trail<L>
-        ensures { result.now ≡ self.now.trail }
+        ensures value { result.now ≡ self.now.trail }
+        ensures kept { IsTrail L.table_place self.now.trail }
     {
         &self.trail
     }
 
-    /// The clauses.
+    /// Lends the clauses.
+    #[inline]
     pub fn arena(&self) -> &Arena<L>
-        ensures { result.now ≡ self.now.clauses }
+        ensures value { result.now ≡ self.now.clauses }
+        ensures inside { (clause place : ℕ) → Contains (slice_index_or (placed L.table_place self.now.clauses) clause []) place → place < 2 * self.now.trail.variables }
     {
         &self.arena
     }
 
-    /// One more true literal, on the current level.
+    /// One more true literal, on the current level, with the clause that it follows from, if any.
     pub fn assign(&mut self, literal: L, reason: Option<ClauseId>)
         requires place { L.table_place literal < 2 * self.old.trail.variables }
         requires free { value_of (places L.table_place self.old.trail.entries) (L.table_place literal) ≡ None }
@@ -78,7 +80,7 @@ impl<L: Lit> Watched<L> {
         self.trail.assign(literal, reason);
     }
 
-    /// One more true literal, on a level of its own.
+    /// One more true literal, on a new level. No literal may wait.
     pub fn decide(&mut self, literal: L)
         requires place { L.table_place literal < 2 * self.old.trail.variables }
         requires free { value_of (places L.table_place self.old.trail.entries) (L.table_place literal) ≡ None }
@@ -89,7 +91,7 @@ impl<L: Lit> Watched<L> {
         self.trail.decide(literal);
     }
 
-    /// The literals of higher levels leave.
+    /// The literals of higher levels leave; the others keep their order, levels and reasons.
     pub fn undo_to(&mut self, level: u32)
         requires { level ≤ self.old.trail.level }
         ensures trail { self.new.trail ≡ undone self.old.trail level }
@@ -98,7 +100,10 @@ impl<L: Lit> Watched<L> {
         self.trail.undo_to(level);
     }
 
-    /// Puts a clause last.
+    /// Puts a clause last, and tells how it stands. No literal may wait.
+    ///
+    /// Of two or more literals the first isn't false, and either the second isn't false too, or all but the first are
+    /// false and the second has the highest level among them. Want of memory leaves clauses and trail as they were.
     pub fn add_clause(&mut self, literals: &[L]) -> Result<Added, AllocError>
         requires few { length self.old.clauses < 2100000000 }
         requires clause { CanAdd L.table_place self.old.trail (map L.table_place literals.now) }
@@ -117,7 +122,10 @@ impl<L: Lit> Watched<L> {
         Ok(Added { id, standing })
     }
 
-    /// Takes in the waiting literals.
+    /// Takes in the waiting literals, until none waits or a clause is false, whose number it gives.
+    ///
+    /// Under the trail cut at each lower level each clause of two or more literals is settled: it has a true literal, or
+    /// two that aren't false. On the whole trail it is settled too, or has the negation of a waiting literal.
     pub fn propagate<S: Ledger>(&mut self, looks: &mut Steps<S>) -> Option<ClauseId>
         requires ready { CanPropagate L.table_place self.old.trail (placed L.table_place self.old.clauses) }
         ensures outcome { Outcome L.table_place self.new.trail (placed L.table_place self.new.clauses) result }

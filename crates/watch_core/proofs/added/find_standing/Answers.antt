@@ -12,4 +12,3 @@ returns-in-Some g c = find_more g.L.Lit.table_place (places g.L.Lit.table_place 
 
 pub returns-in-None : goal.returns-in-None
 returns-in-None g c = find_unit g.L.Lit.table_place (places g.L.Lit.table_place c.args.trail.now.entries) c.args.clause.now c.index-clause-0.result c.index-clause-1.result c.index-clause-0.is c.index-clause-1.is (search rules) (sym c.is_false.ensures ∙ c.if-is_false.false) (sym c.is_true.ensures ∙ c.if-is_true.false) (sym c.is_false-2.ensures ∙ c.if-not-is_false.false) c.in-None.ensures.none
-

@@ -11,7 +11,7 @@ invariant-loop-literal g l = record {
   goes : Propagates g.L.Lit.table_place (placed g.L.Lit.table_place l.initial.arena) l.initial.trail (placed g.L.Lit.table_place l.arena) l.trail;
   room : l.chains.room ≡ l.initial.chains.room;
   later : l.initial.trail.taken ≤ l.trail.taken;
-  cost : l.looks ≤ l.initial.looks + false_occurrences (placed g.L.Lit.table_place l.initial.arena) (places g.L.Lit.table_place (drop l.initial.trail.taken (take l.trail.taken l.trail.entries)))
+  cost : l.looks ≤ l.initial.looks + false_occurrences (placed g.L.Lit.table_place l.initial.arena) (places g.L.Lit.table_place (drop l.initial.trail.taken (take l.trail.taken l.trail.entries)));
 }
 
 abbrev pub decreases-loop-literal : goal.decreases-loop-literal

@@ -49,4 +49,3 @@ returns-clause-goes g c = (visit_assigned g.L.Lit.table_place c.args.arena.now c
 
 pub returns-clause-outcome : goal.returns-clause-outcome
 returns-clause-outcome g c = (refl, (visit_assigned g.L.Lit.table_place c.args.arena.now c.args.chains.now.chains c.args.trail.now c.assign.new.self c.args.seat c.clause-id.result c.side-side.result c.literals-clause.result.now c.index-clause-side.result c.requires.going c.requires.seat c.requires.waits c.clause-id.ensures c.side-side.ensures c.literals-clause.ensures.clause c.in_default.ensures.none c.index-clause-side.is (sym c.is_true.ensures ∙ c.if-is_true.false) c.assign.ensures.value c.assign.ensures.kept).2)
-

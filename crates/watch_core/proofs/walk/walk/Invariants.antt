@@ -14,7 +14,7 @@ invariant-loop-current g l = record {
   room : l.chains.room ≡ l.initial.chains.room;
   taken : l.trail.taken ≡ l.initial.trail.taken;
   waits : is_false (places g.L.Lit.table_place (waiting l.trail)) (g.L.Lit.table_place l.fn.literal) ≡ true;
-  walk : (done : List ℕ) × (rest : List ℕ) × IsWalking (places g.L.Lit.table_place l.trail.entries) (placed g.L.Lit.table_place l.arena) (chain_at l.chains.chains (g.L.Lit.table_place l.fn.literal)) l.current done rest (l.initial.looks + length (chain_at l.initial.chains.chains (g.L.Lit.table_place l.fn.literal))) l.looks
+  walk : (done : List ℕ) × (rest : List ℕ) × IsWalking (places g.L.Lit.table_place l.trail.entries) (placed g.L.Lit.table_place l.arena) (chain_at l.chains.chains (g.L.Lit.table_place l.fn.literal)) l.current done rest (l.initial.looks + length (chain_at l.initial.chains.chains (g.L.Lit.table_place l.fn.literal))) l.looks;
 }
 
 abbrev pub decreases-loop-current : goal.decreases-loop-current

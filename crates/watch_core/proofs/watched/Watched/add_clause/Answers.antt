@@ -14,7 +14,6 @@ link_both-requires-clause-free g c = none_seated g.L.Lit.table_place c.self.insi
 pub invariant_of-self-2 : goal.invariant_of-self-2
 invariant_of-self-2 g c = held_added g.L.Lit.table_place c.self.inside.arena c.push.new.self c.args.literals.now c.self.inside.chains.chains c.reserve.new.self.chains c.link_both.new.chains.chains c.self.inside.chains.room c.reserve.new.self.room c.link_both.new.chains.room c.in_ok-id.id c.self.inside.trail c.args.self.now.trail c.self.invariant (ap (λ (x : Clauses g.row.L.Denot). x.trail) c.self.view_is) c.requires.clause c.requires.rest c.in_ok-id.ensures.clause c.in_ok-id.ensures.id c.reserve.ensures.chains c.link_both.ensures.chains (omega (arith, c.in_ok-reserve.ensures.ok, c.count-count.ensures)) c.link_both.ensures.room
 
-
 pub push-requires-clause-short : goal.push-requires-clause-short
 push-requires-clause-short g c =
     let few = clause_short c.args.self.now.trail.variables (map g.L.Lit.table_place c.args.literals.now) c.requires.clause.inside c.requires.clause.apart in

@@ -17,7 +17,6 @@ invariant_of-self g c = held_from g.L.Lit.table_place c.self.inside.arena c.prop
 pub returns-clause-outcome : goal.returns-clause-outcome
 returns-clause-outcome g c = outcome_now g.L.Lit.table_place c.propagate_all.new.arena c.propagate_all.new.chains.chains c.propagate_all.new.trail c.propagate_all.result c.propagate_all.ensures.going c.propagate_all.ensures.none c.propagate_all.ensures.some
 
-
 pub returns-clause-order : goal.returns-clause-order
 returns-clause-order g c =
     let P : List (List g.row.L.Denot) → Type 0 = λ xs. AreReordered xs c.propagate_all.new.arena in
