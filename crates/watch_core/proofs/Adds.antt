@@ -1,23 +1,22 @@
 -- What a new clause keeps.
-use Rattle.std.proofs.Common.{◌≡◌, ◌≢◌, ℕ, zero, suc, ◌+◌, ◌-◌, ◌*◌, ◌/◌, ◌%◌, ◌<◌, ◌≤◌, ◌==◌, ◌||◌, not, Bool, true, false, cond, List, [], ◌∷◌, ◌++◌, length, map, get_or, set, take, drop, Option, None, Some, refl, sym, ◌∙◌, ap, subst, arith, inl, inr, ◌⊎◌, eq-eqb, eqb}
-use Rattle.std.specs.List.{All, Contains, list_any, IsDistinct, filter}
-use Rattle.std.proofs.lemmas.List.{length-append, length-map, length-set, map-append, get_or_append_left, get_or_at, get_or_past, get_or_default, get_or-set_same, get_or-set_other, get_or-append_right, get_or-map, set_past}
-use Rattle.std.proofs.lemmas.List.Elements.{All-contains, Contains-get_or, filter-append}
+use Rattle.std.proofs.Common.{◌≡◌, ◌≢◌, ℕ, zero, suc, ◌+◌, ◌-◌, ◌*◌, ◌/◌, ◌%◌, ◌<◌, ◌≤◌, ◌==◌, ◌||◌, not, Bool, true, false, cond, List, [], ◌∷◌, ◌++◌, length, map, get_or, set, refl, sym, ◌∙◌, ap, subst, arith, inl, inr, ◌⊎◌, eq-eqb}
+use Rattle.std.specs.List.{All, Contains, IsDistinct}
+use Rattle.std.proofs.lemmas.List.{length-append, length-map, length-set, map-append, get_or_append_left, get_or_at, get_or_past, get_or_default, get_or-set_same, get_or-set_other, get_or-map, set_past}
+use Rattle.std.proofs.lemmas.List.Elements.{All-contains}
 use Rattle.std.proofs.lemmas.Map.Keys.{IsDistinct-from_apart}
 use Rattle.std.proofs.lemmas.Map.Steps.{length-le_from_distinct_below}
 use Rattle.std.proofs.lemmas.Bool.{cases_eq, cases_lt, false≢true}
 use Rattle.std.proofs.lemmas.Bool.Decides.{eqb_tells, leb_tells}
 use Rattle.arena_core.specs.Chains.{chain_at, put_first, IsSeated}
 use Rattle.watch_core.specs.Places.{opposite_place, is_true, is_false, open_literals, placed}
-use Rattle.watch_core.specs.Trail.{Entry, Assignment, IsTrail, places, cut, waiting}
-use Rattle.watch_core.specs.Cover.{clause_of, watched_at, beside, IsWatch, Watches, HasTrue, AllBut, Covered, AllCovered, CoveredAtCuts, IsCovered}
+use Rattle.watch_core.specs.Trail.{Entry, Assignment, places, cut, waiting}
+use Rattle.watch_core.specs.Cover.{IsWatch, Watches, HasTrue, AllBut, IsCovered}
 use Rattle.watch_core.specs.Added.{CanAdd, NotAfter, both_put, standing_of, standing_open}
 use Rattle.watch_core.specs.Watched.{IsHeld}
-use Rattle.watch_core.specs.declared.added.Standing.{Standing}
 use Rattle.watch_core.specs.declared.added.Standing.TheVariants.{Free, Unit, False}
-use Rattle.watch_core.proofs.Assign.{not_eqb, twice, distinct_from, below_any}
+use Rattle.watch_core.proofs.Assign.{not_eqb, distinct_from, below_any}
 use Rattle.watch_core.proofs.Levels.{kept_in, left_out}
-use Rattle.watch_core.proofs.Going.{cut_true, cut_false}
+use Rattle.watch_core.proofs.Going.{cut_false}
 
 -- a literal that is true under a cut has an entry there
 entry_in : {L : Type 0} (at : L → ℕ) (es : List (Entry L)) (k l : ℕ) (d : Entry L) → is_true (places at (cut es k)) l ≡ true → (b : ℕ) × (b < length es) × (at (get_or es b d).literal ≡ l) × ((get_or es b d).level ≤ k)

@@ -1,21 +1,16 @@
 -- How the facts on watched literals go on.
-use Rattle.std.proofs.Common.{◌≡◌, ◌≢◌, ℕ, zero, suc, ◌+◌, ◌-◌, ◌*◌, ◌/◌, ◌%◌, ◌<◌, ◌≤◌, ◌==◌, ◌||◌, not, Bool, true, false, cond, List, [], ◌∷◌, ◌++◌, length, map, get_or, set, swap, take, drop, Option, None, Some, refl, sym, ◌∙◌, ap, subst, arith, inl, inr, ◌⊎◌, eq-eqb}
-use Rattle.std.specs.List.{All, Contains, list_any}
-use Rattle.std.specs.List.Sorted.{IsPermutation}
-use Rattle.std.proofs.lemmas.List.{length-set, length-append, length-map, map-append, get_or-set_same, get_or-set_other, get_or_default, get_or_past, take_all, drop-append-le}
-use Rattle.std.proofs.lemmas.List.Edits.{length-swap}
-use Rattle.std.proofs.lemmas.List.Elements.{Contains-get_or, filter-append, All-drop, All-append}
-use Rattle.std.proofs.lemmas.List.Sorted.{Contains-permutation, IsPermutation-swap, IsPermutation-refl, IsPermutation-sym}
-use Rattle.std.proofs.lemmas.Bool.{cases_eq, cases_lt, false≢true}
-use Rattle.std.proofs.lemmas.Bool.Decides.{eqb_tells, leb_tells}
-use Rattle.arena_core.specs.Chains.{chain_at, put_first, taken_out}
+use Rattle.std.proofs.Common.{◌≡◌, ◌≢◌, ℕ, zero, suc, ◌+◌, ◌-◌, ◌*◌, ◌/◌, ◌%◌, ◌<◌, ◌≤◌, ◌==◌, ◌||◌, not, Bool, true, false, cond, List, [], ◌∷◌, ◌++◌, length, get_or, set, swap, refl, sym, ◌∙◌, ap, subst, arith, inl, inr, ◌⊎◌, eq-eqb}
+use Rattle.std.specs.List.{Contains, list_any}
+use Rattle.std.proofs.lemmas.List.{length-set, get_or-set_same, get_or-set_other, get_or_default}
+use Rattle.std.proofs.lemmas.List.Elements.{Contains-get_or}
+use Rattle.std.proofs.lemmas.List.Sorted.{Contains-permutation, IsPermutation-swap}
+use Rattle.std.proofs.lemmas.Bool.{cases_eq, false≢true}
+use Rattle.std.proofs.lemmas.Bool.Decides.{eqb_tells}
 use Rattle.watch_core.specs.Places.{opposite_place, is_true, is_false, open_literals}
-use Rattle.watch_core.specs.Trail.{Entry, Assignment, IsTrail, places, cut, waiting, entered, one_taken}
-use Rattle.watch_core.specs.Settled.{IsSettled, AllSettled, SettledBelow, IsAtRest, IsInConflict, IsClauseFalse, CanPropagate}
-use Rattle.watch_core.specs.Cover.{clause_of, watched_at, beside, IsWatch, Watches, HasTrue, AllBut, Covered, AllCovered, CoveredAtCuts, IsCovered, IsPropagating}
-use Rattle.watch_core.proofs.Assign.{more_true, or_true, or_none, twice, not_eqb, opposite_ne, member_true}
-use Rattle.watch_core.proofs.Levels.{cut_all, cut_none, cut_cut, left_out, kept_in}
-use Rattle.watch_core.proofs.Watches.{swap_first, swap_other, watches_moved, SameWatch, same_watch}
+use Rattle.watch_core.specs.Settled.{IsSettled, AllSettled}
+use Rattle.watch_core.specs.Cover.{clause_of, watched_at, beside, HasTrue, AllBut, AllCovered}
+use Rattle.watch_core.proofs.Assign.{more_true, or_none, not_eqb}
+use Rattle.watch_core.proofs.Watches.{swap_first, swap_other}
 
 pub true_or_false : (b : Bool) → (b ≡ true) ⊎ (b ≡ false)
 true_or_false true = inl refl

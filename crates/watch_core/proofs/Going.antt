@@ -1,23 +1,22 @@
 -- How the facts inside propagation go on: a seat moves, a literal becomes true, a literal has been taken in.
-use Rattle.std.proofs.Common.{◌≡◌, ◌≢◌, ℕ, zero, suc, ◌+◌, ◌-◌, ◌*◌, ◌/◌, ◌%◌, ◌<◌, ◌≤◌, ◌==◌, ◌||◌, not, Bool, true, false, cond, List, [], ◌∷◌, ◌++◌, length, map, get_or, set, swap, take, drop, Option, None, Some, refl, sym, ◌∙◌, ap, subst, arith, inl, inr, ◌⊎◌, eq-eqb, eqb, leb}
-use Rattle.std.specs.List.{All, Contains, list_any, list_all, IsDistinct, slice_get}
+use Rattle.std.proofs.Common.{◌≡◌, ◌≢◌, ℕ, suc, ◌+◌, ◌*◌, ◌/◌, ◌%◌, ◌<◌, ◌≤◌, ◌==◌, ◌||◌, Bool, true, false, List, [], ◌∷◌, ◌++◌, length, get_or, set, swap, take, drop, Option, Some, refl, sym, ◌∙◌, ap, subst, arith, inl, inr, ◌⊎◌, eq-eqb, leb}
+use Rattle.std.specs.List.{All, Contains}
 use Rattle.std.specs.List.Sorted.{IsPermutation}
-use Rattle.std.proofs.lemmas.List.{length-set, length-append, length-map, map-append, get_or-set_same, get_or-set_other, get_or_default, get_or_past, take_all, drop-append-le, take_at, get_or_at, get_or_append_left, take-take, get_or-take, drop_more, take-append-le, append-nil, length-take-le}
-use Rattle.std.proofs.lemmas.List.Edits.{length-swap}
-use Rattle.std.proofs.lemmas.List.Elements.{Contains-get_or, filter-append, All-drop, All-append, All-contains_itself, All-weaker, All-push}
-use Rattle.std.proofs.lemmas.List.Sorted.{Contains-permutation, All-permutation, IsPermutation-swap, IsPermutation-refl, IsPermutation-sym, IsPermutation-trans, length_permutation}
+use Rattle.std.proofs.lemmas.List.{length-set, length-append, map-append, get_or-set_same, get_or-set_other, take_all, drop-append-le, take_at, get_or_at, take-take, get_or-take, drop_more, append-nil}
+use Rattle.std.proofs.lemmas.List.Elements.{Contains-get_or, filter-append, All-drop, All-contains_itself, All-weaker, All-push}
+use Rattle.std.proofs.lemmas.List.Sorted.{Contains-permutation, All-permutation, IsPermutation-swap, IsPermutation-refl, IsPermutation-sym, IsPermutation-trans}
 use Rattle.std.proofs.lemmas.Map.Keys.{IsDistinct-IsPermutation}
 use Rattle.std.proofs.lemmas.Bool.{cases_eq, cases_lt, false≢true}
 use Rattle.std.proofs.lemmas.Bool.Decides.{eqb_tells, leb_tells}
-use Rattle.arena_core.specs.Chains.{chain_at, put_first, taken_out, others}
-use Rattle.watch_core.specs.Places.{opposite_place, is_true, is_false, open_literals}
+use Rattle.arena_core.specs.Chains.{put_first, taken_out}
+use Rattle.watch_core.specs.Places.{opposite_place, is_true, is_false}
 use Rattle.watch_core.specs.Trail.{Entry, Assignment, IsTrail, places, cut, waiting, entered, assigned, one_taken}
-use Rattle.watch_core.specs.Settled.{IsSettled, AllSettled, SettledBelow, IsAtRest, IsInConflict, IsClauseFalse, CanPropagate, IsReason}
-use Rattle.watch_core.specs.Cover.{clause_of, watched_at, beside, IsWatch, Watches, HasTrue, AllBut, Covered, AllCovered, CoveredAtCuts, IsCovered, IsPropagating, AreReordered, Propagates}
-use Rattle.watch_core.proofs.Assign.{not_eqb, twice}
-use Rattle.watch_core.proofs.Levels.{cut_all, cut_none, cut_cut, left_out, kept_in}
+use Rattle.watch_core.specs.Settled.{SettledBelow, IsAtRest, IsReason}
+use Rattle.watch_core.specs.Cover.{clause_of, watched_at, HasTrue, AllCovered, IsCovered, IsPropagating, AreReordered, Propagates}
+use Rattle.watch_core.proofs.Assign.{not_eqb}
+use Rattle.watch_core.proofs.Levels.{cut_all, cut_none, left_out, kept_in}
 use Rattle.watch_core.proofs.Watches.{watches_moved, places_kept}
-use Rattle.watch_core.proofs.Cover.{true_or_false, covered_more, covered_taken, covered_moved, all_settled, has_swapped}
+use Rattle.watch_core.proofs.Cover.{true_or_false, covered_more, covered_taken, covered_moved, all_settled}
 
 -- what is true under a cut is true
 pub cut_true : {L : Type 0} (at : L → ℕ) (es : List (Entry L)) (k l : ℕ) → is_true (places at (cut es k)) l ≡ true → is_true (places at es) l ≡ true

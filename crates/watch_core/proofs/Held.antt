@@ -1,20 +1,20 @@
 -- What `Watched` keeps between its calls.
-use Rattle.std.proofs.Common.{◌≡◌, ◌≢◌, ℕ, zero, suc, ◌+◌, ◌-◌, ◌*◌, ◌/◌, ◌%◌, ◌<◌, ◌≤◌, ◌==◌, ◌||◌, ◌&&◌, not, Bool, true, false, cond, List, [], ◌∷◌, ◌++◌, length, map, get_or, set, swap, take, drop, min, Option, None, Some, refl, sym, ◌∙◌, ap, subst, arith, inl, inr, ◌⊎◌, eq-eqb, replicate, leb}
-use Rattle.std.specs.List.{All, Contains, list_any, list_all, IsDistinct, filter}
+use Rattle.std.proofs.Common.{◌≡◌, ◌≢◌, ℕ, zero, suc, ◌+◌, ◌*◌, ◌/◌, ◌<◌, ◌≤◌, ◌==◌, ◌||◌, not, Bool, true, false, cond, List, [], ◌∷◌, length, map, get_or, set, take, drop, min, Option, None, Some, refl, sym, ◌∙◌, ap, subst, arith, inl, inr, ◌⊎◌, eq-eqb, replicate, leb}
+use Rattle.std.specs.List.{All, Contains, list_any, IsDistinct}
 use Rattle.std.specs.Option.{IfSome, IfNone}
-use Rattle.std.proofs.lemmas.List.{length-replicate, get_or-replicate, get_or_past, get_or_default, length-take-le, length-map}
+use Rattle.std.proofs.lemmas.List.{length-replicate, get_or-replicate, get_or_past, length-take-le, length-map}
 use Rattle.std.proofs.lemmas.List.Elements.{All-weaker, All-contains, All-from_recursion}
 use Rattle.std.proofs.lemmas.Map.Keys.{IsDistinct-tail, IsDistinct-head}
 use Rattle.std.proofs.lemmas.Bool.{cases_eq, cases_lt, false≢true}
-use Rattle.std.proofs.lemmas.Bool.Decides.{eqb_tells, leb_tells}
+use Rattle.std.proofs.lemmas.Bool.Decides.{leb_tells}
 use Rattle.arena_core.specs.Chains.{chain_at}
 use Rattle.watch_core.specs.Places.{opposite_place, is_true, is_false, open_literals, placed}
-use Rattle.watch_core.specs.Trail.{Entry, Assignment, IsTrail, IsLeveled, places, cut, waiting, value_of, entered, assigned, undone, empty_trail}
-use Rattle.watch_core.specs.Settled.{IsFalseClause, IsSettled, AllSettled, SettledBelow, SettledOrWaits, CanPropagate, IsAtRest, IsInConflict, Outcome, IsClauseFalse}
-use Rattle.watch_core.specs.Cover.{clause_of, watched_at, beside, IsWatch, Watches, HasTrue, AllBut, Covered, AllCovered, CoveredAtCuts, IsCovered, IsPropagating, Propagates}
+use Rattle.watch_core.specs.Trail.{Entry, Assignment, IsTrail, places, cut, waiting, value_of, entered, undone, empty_trail}
+use Rattle.watch_core.specs.Settled.{IsFalseClause, IsSettled, CanPropagate, Outcome}
+use Rattle.watch_core.specs.Cover.{clause_of, beside, HasTrue, AllBut, AllCovered, IsCovered, IsPropagating, Propagates}
 use Rattle.watch_core.specs.Watched.{IsHeld}
 use Rattle.watch_core.proofs.Assign.{value_none}
-use Rattle.watch_core.proofs.Levels.{cut_all, cut_none, cut_cut, cut_is, kept_in, left_out, waits_cut}
+use Rattle.watch_core.proofs.Levels.{cut_all, cut_cut, cut_is, waits_cut}
 use Rattle.watch_core.proofs.Cover.{any_to}
 use Rattle.watch_core.proofs.Going.{covers_entered, weaker, settled_below, at_rest_now}
 

@@ -1,11 +1,11 @@
 -- Levels along a trail, and what a cut leaves.
-use Rattle.std.proofs.Common.{◌≡◌, ◌≢◌, ℕ, zero, suc, ◌+◌, ◌-◌, ◌*◌, ◌<◌, ◌≤◌, Bool, true, false, cond, List, [], ◌∷◌, ◌++◌, length, map, get_or, take, drop, refl, sym, ◌∙◌, ap, subst, arith, inl, inr, ◌⊎◌, leb, min}
-use Rattle.std.specs.List.{All, filter}
-use Rattle.std.proofs.lemmas.List.{length-append, get_or_append_left, get_or-append_right, get_or-take, length-take-le, get_or_default, get_or-drop, length-drop, take_all, drop_all, take-append-drop, length-take}
-use Rattle.std.proofs.lemmas.List.Elements.{All-push, All-weaker, All-tail, All-head, filter-append, filter_passes, All-cons, All-take}
+use Rattle.std.proofs.Common.{◌≡◌, ℕ, zero, suc, ◌+◌, ◌-◌, ◌<◌, ◌≤◌, cond, List, [], ◌∷◌, ◌++◌, length, get_or, take, drop, refl, sym, ◌∙◌, ap, subst, arith, inl, inr, ◌⊎◌, leb, min}
+use Rattle.std.specs.List.{All}
+use Rattle.std.proofs.lemmas.List.{length-append, get_or_append_left, get_or-append_right, get_or-take, length-take-le, get_or-drop, length-drop}
+use Rattle.std.proofs.lemmas.List.Elements.{All-push, All-weaker, filter-append, filter_passes}
 use Rattle.std.proofs.lemmas.Bool.{cases_lt, false≢true}
 use Rattle.std.proofs.lemmas.Bool.Decides.{leb_tells}
-use Rattle.watch_core.specs.Trail.{Entry, Assignment, IsLeveled, cut, undone, waiting}
+use Rattle.watch_core.specs.Trail.{Entry, IsLeveled, cut}
 
 pub kept_in : {L : Type 0} (e : Entry L) (es : List (Entry L)) (k : ℕ) → e.level ≤ k → cut (e ∷ es) k ≡ e ∷ cut es k
 kept_in e es k h = elim (leb_tells e.level k) [

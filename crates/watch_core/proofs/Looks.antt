@@ -1,8 +1,8 @@
 -- A chain is no longer than its literal stands often in clauses.
-use Rattle.std.proofs.Common.{◌≡◌, ◌≢◌, ℕ, zero, suc, ◌+◌, ◌-◌, ◌*◌, ◌/◌, ◌%◌, ◌<◌, ◌≤◌, ◌==◌, ◌||◌, Bool, true, false, cond, List, [], ◌∷◌, ◌++◌, length, get_or, take, drop, Option, None, Some, refl, sym, ◌∙◌, ap, subst, arith, inl, inr, ◌⊎◌, eq-eqb, eqb}
-use Rattle.std.specs.List.{Contains, count_by, sum_by, list_any, IsDistinct, slice_get}
+use Rattle.std.proofs.Common.{◌≡◌, ℕ, zero, suc, ◌+◌, ◌*◌, ◌/◌, ◌%◌, ◌<◌, ◌≤◌, ◌==◌, ◌||◌, Bool, true, false, cond, List, [], ◌∷◌, ◌++◌, length, get_or, take, drop, None, Some, refl, sym, ◌∙◌, ap, subst, arith, inl, inr, eq-eqb, eqb}
+use Rattle.std.specs.List.{Contains, count_by, sum_by, list_any, slice_get}
 use Rattle.std.proofs.lemmas.List.{length-append, get_or_default, length-take-le, take-take, take_more, drop-append-le, map-append, take-map}
-use Rattle.std.proofs.lemmas.List.Elements.{Contains-append_left, Contains-append_right, Contains-get_or}
+use Rattle.std.proofs.lemmas.List.Elements.{Contains-append_left, Contains-append_right}
 use Rattle.std.proofs.lemmas.List.Sums.{sum_by-cons, sum_by_push, sum_by-take-le}
 use Rattle.std.proofs.lemmas.Map.Made.{length-le_from_is_member}
 use Rattle.std.proofs.lemmas.Map.Keys.{IsDistinct-from_apart}
@@ -15,7 +15,7 @@ use Rattle.watch_core.specs.Places.{opposite_place}
 use Rattle.watch_core.specs.Trail.{Entry, Assignment, places, waiting, order, one_taken}
 use Rattle.watch_core.proofs.Visit.{first_is}
 use Rattle.std.proofs.lemmas.List.Sorted.{sum_by-IsPermutation}
-use Rattle.watch_core.specs.Cover.{IsWatch, Watches, AreReordered, Propagates}
+use Rattle.watch_core.specs.Cover.{Watches, AreReordered, Propagates}
 use Rattle.watch_core.proofs.Assign.{not_eqb}
 
 -- the seats of one clause that watch a literal

@@ -1,21 +1,12 @@
 -- One visited seat, and a chain as it is walked.
-use Rattle.std.proofs.Common.{◌≡◌, ◌≢◌, ℕ, zero, suc, ◌+◌, ◌-◌, ◌*◌, ◌/◌, ◌%◌, ◌<◌, ◌≤◌, ◌==◌, ◌||◌, ◌&&◌, not, Bool, true, false, cond, List, [], ◌∷◌, ◌++◌, length, map, get_or, set, swap, take, drop, Option, None, Some, refl, sym, ◌∙◌, ap, subst, arith, inl, inr, ◌⊎◌, eq-eqb}
-use Rattle.std.specs.List.{All, Contains, list_any, list_all, slice_get}
-use Rattle.std.proofs.lemmas.List.{length-set, length-append, length-map, get_or-map, get_or_past, map-set, get_or-set_other, take-append-drop, get_or_default, append_assoc}
-use Rattle.std.proofs.lemmas.List.Elements.{Contains-get_or, All-contains}
-use Rattle.std.proofs.lemmas.List.Sorted.{Contains-permutation}
-use Rattle.std.proofs.lemmas.List.Folds.{list_any-append}
-use Rattle.std.proofs.lemmas.Bool.{cases_eq, cases_lt, false≢true}
-use Rattle.std.proofs.lemmas.Bool.Decides.{eqb_tells}
-use Rattle.arena_core.specs.Chains.{chain_at, put_first, taken_out, others, AreApart, IsSeated}
-use Rattle.watch_core.specs.Places.{opposite_place, is_true, is_false, placed}
-use Rattle.watch_core.specs.Trail.{Entry, Assignment, IsTrail, places, waiting, value_of, assigned, order, one_taken}
+use Rattle.std.proofs.Common.{◌≡◌, ◌≢◌, ℕ, zero, suc, ◌+◌, ◌-◌, ◌%◌, ◌<◌, ◌≤◌, ◌==◌, ◌||◌, ◌&&◌, Bool, true, false, cond, List, [], ◌∷◌, ◌++◌, length, map, get_or, set, swap, drop, Option, None, Some, refl, sym, ◌∙◌, ap, arith, inl, inr}
+use Rattle.std.specs.List.{Contains, list_all, slice_get}
+use Rattle.std.proofs.lemmas.List.{length-map, get_or-map, get_or_past, map-set}
+use Rattle.std.proofs.lemmas.Bool.{cases_lt}
+use Rattle.watch_core.specs.Places.{is_true, is_false, placed}
+use Rattle.watch_core.specs.Trail.{Entry, Assignment, places, waiting, value_of}
 use Rattle.watch_core.specs.Settled.{IsClauseFalse}
-use Rattle.watch_core.specs.Cover.{clause_of, watched_at, beside, IsWatch, Watches, HasTrue, IsCovered, IsPropagating, AreReordered, Propagates}
-use Rattle.watch_core.specs.Walk.{IsSeat, AllWalked}
-use Rattle.watch_core.proofs.Cover.{true_or_false, now_true}
-use Rattle.watch_core.proofs.Watches.{chain_taken, in_others}
-use Rattle.watch_core.proofs.Going.{covers_moved, going_assigned, going_taken, goes_assigned, goes_order, only_swapped}
+use Rattle.watch_core.specs.Cover.{clause_of, HasTrue}
 
 pub placed_row : {L : Type 0} (at : L → ℕ) (cs : List (List L)) (i : ℕ) → get_or (placed at cs) i [] ≡ map at (get_or cs i [])
 placed_row at cs i = elim (cases_lt i (length cs)) [

@@ -1,16 +1,16 @@
 -- What the tables of a trail keep when literals leave, and what callers know of a trail.
-use Rattle.std.proofs.Common.{◌≡◌, ◌≢◌, ℕ, zero, suc, ◌+◌, ◌-◌, ◌*◌, ◌/◌, ◌%◌, ◌<◌, ◌≤◌, ◌==◌, ◌||◌, not, Bool, true, false, cond, List, [], ◌∷◌, ◌++◌, length, map, get_or, set, take, Option, None, Some, refl, sym, ◌∙◌, ap, subst, arith, inl, inr, ◌⊎◌, eq-eqb, min, drop}
-use Rattle.std.specs.List.{All, list_any, slice_get}
+use Rattle.std.proofs.Common.{◌≡◌, ◌≢◌, ℕ, zero, suc, ◌+◌, ◌-◌, ◌*◌, ◌/◌, ◌%◌, ◌<◌, ◌≤◌, ◌==◌, ◌||◌, not, Bool, true, false, List, [], ◌∷◌, ◌++◌, length, map, get_or, set, take, Option, None, Some, refl, sym, ◌∙◌, ap, subst, arith, inl, inr, ◌⊎◌, eq-eqb, min, drop}
+use Rattle.std.specs.List.{slice_get}
 use Rattle.std.specs.Prelude.{is_some}
 use Rattle.std.proofs.lemmas.List.{map-append, length-set, length-append, length-map, get_or-set_same, get_or-set_other, get_or-map, get_or_append_left, take_more, get_or_default, get_or_at, drop_more, drop_all, drop-map, length-take-le, get_or-take, take-map}
 use Rattle.std.proofs.lemmas.List.Elements.{All-map, All-set}
-use Rattle.std.proofs.lemmas.Bool.{cases_eq, cases_lt, false≢true}
-use Rattle.std.proofs.lemmas.Bool.Decides.{eqb_tells, nat_tests}
-use Rattle.watch_core.specs.Places.{opposite_place, is_true, is_false}
-use Rattle.watch_core.specs.Trail.{Entry, Assignment, IsTrail, IsLeveled, places, value_of, assigned, undone, cut, order, waiting, empty_trail}
+use Rattle.std.proofs.lemmas.Bool.{cases_eq, false≢true}
+use Rattle.std.proofs.lemmas.Bool.Decides.{nat_tests}
+use Rattle.watch_core.specs.Places.{opposite_place, is_true}
+use Rattle.watch_core.specs.Trail.{Entry, Assignment, IsTrail, IsLeveled, places, value_of, undone, cut, order, waiting, empty_trail}
 use Rattle.watch_core.specs.Kept.{blank, reason_of, entry_of, entries_of, IsKept, Keeps}
 use Rattle.watch_core.specs.declared.trail.Mark.{Mark}
-use Rattle.watch_core.proofs.Assign.{more_true, or_true, or_none, value_none, twice, not_eqb, opposite_ne, order_short, course_assigned}
+use Rattle.watch_core.proofs.Assign.{more_true, or_none, value_none, twice, not_eqb, order_short, course_assigned}
 use Rattle.watch_core.proofs.Levels.{leveled_more, leveled_cut, cut_is, cut_all}
 
 -- the level is at most the number of variables

@@ -1,22 +1,22 @@
 -- What one visited seat leaves, and one turn of a walk.
-use Rattle.std.proofs.Common.{◌≡◌, ◌≢◌, ℕ, zero, suc, ◌+◌, ◌-◌, ◌*◌, ◌/◌, ◌%◌, ◌<◌, ◌≤◌, ◌==◌, ◌||◌, ◌&&◌, not, Bool, true, false, cond, List, [], ◌∷◌, ◌++◌, length, map, get_or, set, swap, take, drop, Option, None, Some, refl, sym, ◌∙◌, ap, subst, arith, inl, inr, ◌⊎◌, eq-eqb}
-use Rattle.std.specs.List.{All, Contains, list_any, list_all, slice_get, filter}
-use Rattle.std.proofs.lemmas.List.{length-set, length-append, length-map, get_or-map, get_or_past, map-set, get_or-set_other, take-append-drop, get_or_default, append_assoc, get_or_at, get_or_append_left, drop_more, get_or-take, map-append, append-nil}
-use Rattle.std.proofs.lemmas.List.Elements.{Contains-get_or, Contains-push_cases, filter-append}
+use Rattle.std.proofs.Common.{◌≡◌, ◌≢◌, ℕ, zero, suc, ◌+◌, ◌-◌, ◌*◌, ◌/◌, ◌%◌, ◌<◌, ◌≤◌, ◌==◌, ◌||◌, not, Bool, true, false, cond, List, [], ◌∷◌, ◌++◌, length, get_or, set, swap, take, drop, Option, None, Some, refl, sym, ◌∙◌, ap, subst, arith, inl, inr, eq-eqb}
+use Rattle.std.specs.List.{All, Contains, slice_get}
+use Rattle.std.proofs.lemmas.List.{length-append, get_or-map, get_or-set_other, get_or_default, append_assoc, get_or_at, drop_more, get_or-take, map-append, append-nil}
+use Rattle.std.proofs.lemmas.List.Elements.{Contains-get_or, Contains-push_cases}
 use Rattle.std.proofs.lemmas.List.Sorted.{Contains-permutation, length_permutation}
-use Rattle.std.proofs.lemmas.Bool.{cases_eq, cases_lt, false≢true}
-use Rattle.std.proofs.lemmas.Bool.Decides.{eqb_tells, nat_tests}
+use Rattle.std.proofs.lemmas.Bool.{cases_eq, false≢true}
+use Rattle.std.proofs.lemmas.Bool.Decides.{eqb_tells}
 use Rattle.arena_core.specs.Chains.{chain_at, put_first, taken_out, others, AreApart, IsSeated}
 use Rattle.watch_core.specs.Places.{opposite_place, is_true, is_false, placed}
-use Rattle.watch_core.specs.Trail.{Entry, Assignment, IsTrail, places, waiting, value_of, assigned, order, one_taken}
+use Rattle.watch_core.specs.Trail.{Entry, Assignment, IsTrail, places, waiting, assigned, order, one_taken}
 use Rattle.watch_core.specs.Settled.{IsClauseFalse, IsFalseClause}
-use Rattle.watch_core.specs.Cover.{clause_of, watched_at, beside, IsWatch, Watches, HasTrue, IsCovered, IsPropagating, AreReordered, Propagates}
+use Rattle.watch_core.specs.Cover.{clause_of, watched_at, beside, Watches, HasTrue, IsPropagating, AreReordered, Propagates}
 use Rattle.watch_core.specs.Walk.{IsSeat, AllWalked, Visited}
 use Rattle.watch_core.specs.declared.walk.Visit.{Visit}
 use Rattle.watch_core.specs.declared.walk.Visit.TheVariants.{Stays, Moved, False}
 use Rattle.watch_core.proofs.Assign.{twice}
-use Rattle.watch_core.proofs.Cover.{true_or_false, now_true}
-use Rattle.watch_core.proofs.Watches.{chain_taken, no_other, head_in, drained}
+use Rattle.watch_core.proofs.Cover.{now_true}
+use Rattle.watch_core.proofs.Watches.{chain_taken, no_other, drained}
 use Rattle.watch_core.proofs.Going.{covers_moved, going_assigned, going_taken, goes_assigned, goes_order, goes_trans, goes_taken, only_swapped}
 use Rattle.watch_core.proofs.Steps.{row_is, row_at, row_long, placed_swap, waits_true, all_false, others_false, IsWalking}
 

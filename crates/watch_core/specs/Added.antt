@@ -1,5 +1,5 @@
 -- What a new clause must be, and its standing.
-use Rattle.std.specs.Prelude.{ℕ, ◌≡◌, ◌≢◌, ◌+◌, ◌*◌, ◌/◌, ◌<◌, ◌≤◌, Bool, true, false, List, [], ◌∷◌, length, All, slice_index_or, ◌⊎◌, if◌then◌else◌}
+use Rattle.std.specs.Prelude.{ℕ, ◌≡◌, ◌≢◌, ◌+◌, ◌*◌, ◌/◌, ◌<◌, ◌≤◌, true, false, List, [], ◌∷◌, length, All, slice_index_or, ◌⊎◌, if◌then◌else◌}
 use Rattle.arena_core.specs.Chains.{put_first}
 use Rattle.watch_core.specs.Places.{is_true, is_false, opposite_place, open_literals}
 use Rattle.watch_core.specs.Trail.{Assignment, Entry, places}

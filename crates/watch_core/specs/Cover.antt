@@ -1,8 +1,8 @@
 -- What holds of watched literals. Clauses are lists of places here.
-use Rattle.std.specs.Prelude.{ℕ, ◌≡◌, ◌≢◌, ◌+◌, ◌-◌, ◌*◌, ◌/◌, ◌%◌, ◌<◌, ◌≤◌, ◌==◌, Bool, true, false, List, [], length, take, All, Option, Some, Contains, slice_index_or, ◌⊎◌, IsPermutation}
+use Rattle.std.specs.Prelude.{ℕ, ◌≡◌, ◌≢◌, ◌-◌, ◌*◌, ◌/◌, ◌%◌, ◌<◌, ◌≤◌, ◌==◌, Bool, true, false, List, [], length, take, All, Some, Contains, slice_index_or, ◌⊎◌, IsPermutation}
 use Rattle.std.specs.List.{IsDistinct}
 use Rattle.arena_core.specs.Chains.{chain_at}
-use Rattle.watch_core.specs.Places.{is_true, is_false, opposite_place}
+use Rattle.watch_core.specs.Places.{is_true, is_false}
 use Rattle.watch_core.specs.Trail.{Assignment, Entry, IsTrail, places, cut, waiting}
 use Rattle.watch_core.specs.Settled.{IsReason}
 

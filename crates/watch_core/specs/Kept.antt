@@ -1,7 +1,7 @@
 -- What a trail keeps in its tables.
-use Rattle.std.specs.Prelude.{ℕ, ◌≡◌, ◌≢◌, ◌+◌, ◌*◌, ◌/◌, ◌==◌, ◌⊎◌, ◌<◌, ◌≤◌, List, length, map, All, Option, Some, None, slice_index, slice_index_or, if◌then◌else◌}
+use Rattle.std.specs.Prelude.{ℕ, ◌≡◌, ◌≢◌, ◌*◌, ◌/◌, ◌==◌, ◌⊎◌, ◌<◌, ◌≤◌, List, length, map, All, Option, Some, None, slice_index, slice_index_or, if◌then◌else◌}
 use Rattle.watch_core.specs.Places.{is_true, is_false}
-use Rattle.watch_core.specs.Trail.{Assignment, Entry, IsLeveled}
+use Rattle.watch_core.specs.Trail.{Entry, IsLeveled}
 use Rattle.watch_core.specs.declared.trail.Mark.{Mark}
 
 abbrev pub blank : Mark

@@ -1,5 +1,5 @@
 -- When propagation has come to rest.
-use Rattle.std.specs.Prelude.{ℕ, ◌≡◌, ◌<◌, ◌≤◌, Bool, true, not, List, [], length, map, All, Option, Some, None, slice_index_or, Contains, ◌⊎◌, take}
+use Rattle.std.specs.Prelude.{ℕ, ◌≡◌, ◌<◌, ◌≤◌, true, List, [], length, All, Option, Some, None, slice_index_or, Contains, ◌⊎◌, take}
 use Rattle.std.specs.List.{list_any, list_all}
 use Rattle.watch_core.specs.Places.{is_true, is_false, open_literals, opposite_place}
 use Rattle.watch_core.specs.Trail.{Assignment, Entry, places, cut, waiting}

@@ -1,5 +1,5 @@
 -- What is assigned: the true literals in order, with a level and maybe a reason each.
-use Rattle.std.specs.Prelude.{ℕ, ◌≡◌, ◌+◌, ◌-◌, ◌*◌, ◌/◌, ◌≢◌, ◌<◌, ◌≤◌, ◌==◌, nat_le, Bool, true, false, not, List, [], ◌∷◌, ◌++◌, length, map, take, drop, filter, min, Option, Some, None, slice_index, slice_index_or, if◌then◌else◌, ◌⊎◌, All}
+use Rattle.std.specs.Prelude.{ℕ, ◌+◌, ◌*◌, ◌/◌, ◌≢◌, ◌<◌, ◌≤◌, nat_le, Bool, true, false, List, [], ◌∷◌, ◌++◌, length, map, drop, filter, min, Option, Some, None, slice_index_or, if◌then◌else◌, All}
 use Rattle.watch_core.specs.Places.{is_true, is_false}
 
 pub record Entry (L : Type 0) : Type 0 where

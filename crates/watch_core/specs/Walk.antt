@@ -1,8 +1,6 @@
 -- What one visited seat and one walked chain leave.
-use Rattle.std.specs.Prelude.{ℕ, ◌≡◌, ◌≢◌, ◌/◌, ◌<◌, ◌≤◌, true, List, [], length, slice_index_or}
-use Rattle.std.specs.List.{list_all}
+use Rattle.std.specs.Prelude.{ℕ, ◌≡◌, ◌≢◌, ◌/◌, ◌<◌, ◌≤◌, List, length}
 use Rattle.arena_core.specs.Chains.{put_first, taken_out}
-use Rattle.watch_core.specs.Places.{is_false}
 use Rattle.watch_core.specs.Trail.{Assignment, places}
 use Rattle.watch_core.specs.Settled.{IsClauseFalse}
 use Rattle.watch_core.specs.Cover.{clause_of, watched_at, HasTrue}

@@ -1,5 +1,5 @@
 -- Clauses with a trail.
-use Rattle.std.specs.Prelude.{ℕ, ◌≡◌, ◌≤◌, false, List, length}
+use Rattle.std.specs.Prelude.{ℕ, ◌≤◌, false, List, length}
 use Rattle.watch_core.specs.Places.{placed}
 use Rattle.watch_core.specs.Trail.{Assignment}
 use Rattle.watch_core.specs.Cover.{IsCovered}

@@ -1,7 +1,6 @@
-use Rattle.std.proofs.Common.{ap, sym, refl, subst, ◌∙◌, ◌≡◌, ◌<◌, ◌≤◌, ◌+◌, ◌*◌, ◌/◌, ℕ, length, map, rules, arith}
-use Rattle.watch_core.specs.Trail.{Assignment, places}
-use Rattle.watch_core.specs.Watched.{Clauses}
-use Rattle.watch_core.proofs.Adds.{seated_back, clause_inside, find_more, find_unit, held_added, none_seated}
+use Rattle.std.proofs.Common.{sym, ◌∙◌, ◌*◌, rules}
+use Rattle.watch_core.specs.Trail.{places}
+use Rattle.watch_core.proofs.Adds.{clause_inside, find_more, find_unit}
 use Rattle.watch_core.proofs.added.find_standing.Goals as goal
 
 pub open_place-requires : goal.open_place-requires

@@ -1,7 +1,5 @@
-use Rattle.std.proofs.Common.{ap, sym, refl, subst, ◌∙◌, ◌≡◌, ◌<◌, ◌≤◌, ◌+◌, ◌*◌, ◌/◌, ℕ, length, map, rules, arith}
-use Rattle.watch_core.specs.Trail.{Assignment, places}
-use Rattle.watch_core.specs.Watched.{Clauses}
-use Rattle.watch_core.proofs.Adds.{seated_back, clause_inside, find_more, find_unit, held_added, none_seated}
+use Rattle.std.proofs.Common.{arith}
+use Rattle.watch_core.proofs.Adds.{seated_back}
 use Rattle.watch_core.proofs.added.link_both.Goals as goal
 
 pub link-requires-clause-free : goal.link-requires-clause-free

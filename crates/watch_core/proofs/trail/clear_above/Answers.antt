@@ -1,11 +1,9 @@
-use Rattle.std.proofs.Common.{ap, sym, refl, subst, ◌∙◌, ◌≡◌, ◌<◌, ◌≤◌, ◌-◌, ◌*◌, ◌/◌, ℕ, length, rules, arith}
-use Rattle.watch_core.specs.Trail.{Assignment, Entry, IsTrail}
+use Rattle.std.proofs.Common.{ap, refl, ◌∙◌, ◌≡◌, ◌-◌, ◌/◌, arith}
 use Rattle.std.proofs.Common.{get_or}
 use Rattle.std.proofs.lemmas.List.{get_or_default}
-use Rattle.watch_core.specs.declared.trail.Mark.{Mark}
 use Rattle.watch_core.specs.Places.{opposite_place}
 use Rattle.watch_core.proofs.Assign.{opposite_is}
-use Rattle.watch_core.proofs.TrailLemmas.{trail_is, mark_reads, order_now, waiting_first, waiting_none, kept_turn, above_turn, clear_ends, clear_whole, turn_inside, keeps_undone, kept_free}
+use Rattle.watch_core.proofs.TrailLemmas.{kept_turn, above_turn, clear_ends, clear_whole, turn_inside}
 use Rattle.watch_core.proofs.trail.clear_above.Goals as goal
 
 pub loop-size-preserved : goal.loop-size-preserved

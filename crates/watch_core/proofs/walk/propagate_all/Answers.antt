@@ -1,11 +1,9 @@
-use Rattle.std.proofs.Common.{ap, sym, refl, subst, ◌∙◌, ◌≡◌, ◌<◌, ◌≤◌, ◌-◌, ◌*◌, ◌/◌, ◌+◌, ℕ, [], length, rules, arith}
-use Rattle.watch_core.specs.Places.{opposite_place, placed, is_false}
-use Rattle.watch_core.specs.Trail.{Assignment, Entry, IsTrail, places, waiting, one_taken}
-use Rattle.arena_core.specs.Chains.{chain_at}
-use Rattle.std.proofs.lemmas.List.{length-map}
+use Rattle.std.proofs.Common.{ap, sym, refl, ◌∙◌, ◌≡◌, ◌+◌, arith}
+use Rattle.watch_core.specs.Places.{opposite_place, placed}
+use Rattle.watch_core.specs.Trail.{Assignment, one_taken}
 use Rattle.watch_core.proofs.Assign.{opposite_is, twice}
-use Rattle.watch_core.proofs.Going.{goes_same, goes_trans}
-use Rattle.watch_core.proofs.Visit.{visit_other, visit_inside, visit_seated, visit_moved, visit_place, visit_false, visit_assigned, walk_turn, walk_in, walk_ends, first_waits, first_low, first_is, none_waits, opposite_low, walked_taken}
+use Rattle.watch_core.proofs.Going.{goes_trans}
+use Rattle.watch_core.proofs.Visit.{first_waits, first_low, none_waits, opposite_low, walked_taken}
 use Rattle.watch_core.proofs.Looks.{looks_more, looks_all}
 use Rattle.watch_core.proofs.walk.propagate_all.Goals as goal
 

@@ -1,4 +1,4 @@
-use Rattle.std.proofs.Common.{◌≡◌, ℕ, ◌+◌, ◌-◌, ◌<◌, ◌≤◌, length, map, take, drop}
+use Rattle.std.proofs.Common.{◌≡◌, ◌+◌, ◌-◌, ◌≤◌, take, drop}
 use Rattle.watch_core.specs.Looks.{false_occurrences}
 use Rattle.watch_core.specs.Trail.{places}
 use Rattle.watch_core.specs.Places.{placed}

@@ -1,11 +1,6 @@
-use Rattle.std.proofs.Common.{ap, sym, refl, subst, ◌∙◌, ◌≡◌, ◌<◌, ◌≤◌, ◌-◌, ◌*◌, ◌/◌, ◌+◌, ℕ, [], length, rules, arith}
-use Rattle.watch_core.specs.Places.{opposite_place, placed, is_false}
-use Rattle.watch_core.specs.Trail.{Assignment, Entry, IsTrail, places, waiting}
-use Rattle.arena_core.specs.Chains.{chain_at}
-use Rattle.std.proofs.lemmas.List.{length-map}
-use Rattle.watch_core.proofs.Assign.{opposite_is, twice}
-use Rattle.watch_core.proofs.Going.{goes_same, goes_trans}
-use Rattle.watch_core.proofs.Visit.{visit_other, visit_inside, visit_seated, visit_moved, visit_place, visit_false, visit_assigned, walk_turn, walk_in, walk_ends, first_waits, first_is, none_waits, opposite_low, walked_taken}
+use Rattle.std.proofs.Common.{sym, refl, ◌∙◌, ◌/◌}
+use Rattle.watch_core.specs.Places.{placed}
+use Rattle.watch_core.proofs.Visit.{visit_other, visit_inside, visit_seated, visit_moved, visit_place, visit_false, visit_assigned}
 use Rattle.watch_core.proofs.walk.visit_seat.Goals as goal
 
 pub is_true-requires : goal.is_true-requires

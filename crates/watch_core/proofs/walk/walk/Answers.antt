@@ -1,12 +1,9 @@
-use Rattle.std.proofs.Common.{ap, sym, refl, subst, ◌∙◌, ◌≡◌, ◌<◌, ◌≤◌, ◌-◌, ◌*◌, ◌/◌, ◌+◌, ℕ, [], length, map, get_or, Bool, true, rules, arith}
+use Rattle.std.proofs.Common.{ap, refl, ◌∙◌, [], arith}
 use Rattle.watch_core.specs.Places.{opposite_place, placed, is_false}
-use Rattle.watch_core.specs.Trail.{Assignment, Entry, IsTrail, places, waiting}
-use Rattle.watch_core.specs.Settled.{IsClauseFalse}
+use Rattle.watch_core.specs.Trail.{places, waiting}
 use Rattle.arena_core.specs.Chains.{chain_at}
-use Rattle.std.proofs.lemmas.List.{length-map}
-use Rattle.watch_core.proofs.Assign.{opposite_is, twice}
 use Rattle.watch_core.proofs.Going.{goes_same, goes_trans}
-use Rattle.watch_core.proofs.Visit.{false_at, visit_other, visit_inside, visit_seated, visit_moved, visit_place, visit_false, visit_assigned, walk_turn, walk_in, walk_ends, first_waits, waits_goes, first_is, none_waits, opposite_low, walked_taken}
+use Rattle.watch_core.proofs.Visit.{false_at, walk_turn, walk_in, walk_ends, waits_goes}
 use Rattle.watch_core.proofs.walk.walk.Goals as goal
 
 pub loop-current-init : goal.loop-current-init

@@ -1,5 +1,4 @@
-use Rattle.std.proofs.Common.{◌≡◌, ℕ, ◌+◌, ◌-◌, ◌*◌, ◌<◌, true, length, List, ◌++◌, map, get_or, []}
-use Rattle.std.specs.List.{slice_get, Contains}
+use Rattle.std.proofs.Common.{◌≡◌, ℕ, ◌+◌, ◌-◌, true, length, List}
 use Rattle.arena_core.specs.Chains.{chain_at}
 use Rattle.watch_core.specs.Places.{is_false, placed}
 use Rattle.watch_core.specs.Trail.{places, waiting}

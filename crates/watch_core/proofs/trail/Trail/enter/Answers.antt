@@ -1,4 +1,4 @@
-use Rattle.std.proofs.Common.{ap, sym, refl, ◌∙◌, ◌≡◌, ◌<◌, length, rules, arith}
+use Rattle.std.proofs.Common.{ap, refl, ◌∙◌, ◌≡◌, rules}
 use Rattle.watch_core.specs.Trail.{Assignment}
 use Rattle.watch_core.specs.Places.{opposite_place}
 use Rattle.watch_core.proofs.Assign.{course_assigned, course_room, opposite_is, entered_view}

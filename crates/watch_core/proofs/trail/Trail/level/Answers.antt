@@ -1,8 +1,6 @@
-use Rattle.std.proofs.Common.{ap, sym, refl, subst, ◌∙◌, ◌≡◌, ◌<◌, ◌≤◌, ◌-◌, ◌*◌, ◌/◌, ℕ, length, rules, arith}
-use Rattle.watch_core.specs.Trail.{Assignment, Entry, IsTrail}
-use Rattle.watch_core.specs.Places.{opposite_place}
-use Rattle.watch_core.proofs.Assign.{opposite_is}
-use Rattle.watch_core.proofs.TrailLemmas.{trail_is, mark_reads, order_now, waiting_first, waiting_none, kept_turn, above_turn, clear_ends, clear_whole, keeps_undone, kept_free}
+use Rattle.std.proofs.Common.{subst}
+use Rattle.watch_core.specs.Trail.{Assignment, IsTrail}
+use Rattle.watch_core.proofs.TrailLemmas.{trail_is}
 use Rattle.watch_core.proofs.trail.Trail.level.Goals as goal
 
 pub returns-clause-kept : goal.returns-clause-kept

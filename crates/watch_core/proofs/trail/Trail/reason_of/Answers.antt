@@ -1,8 +1,6 @@
-use Rattle.std.proofs.Common.{ap, sym, refl, subst, ◌∙◌, ◌≡◌, ◌<◌, ◌≤◌, ◌-◌, ◌*◌, ◌/◌, ℕ, length, rules, arith}
-use Rattle.watch_core.specs.Trail.{Assignment, Entry, IsTrail}
-use Rattle.watch_core.specs.Places.{opposite_place}
-use Rattle.watch_core.proofs.Assign.{opposite_is}
-use Rattle.watch_core.proofs.TrailLemmas.{unset_entry, unset, not_unset, trail_is, mark_reads, order_now, waiting_first, waiting_none, kept_turn, above_turn, clear_ends, clear_whole, keeps_undone, kept_free}
+use Rattle.std.proofs.Common.{ap, ◌∙◌}
+use Rattle.watch_core.specs.Trail.{Assignment}
+use Rattle.watch_core.proofs.TrailLemmas.{unset_entry, unset, not_unset, mark_reads}
 use Rattle.watch_core.proofs.trail.Trail.reason_of.Goals as goal
 
 pub returns-clause-given : goal.returns-clause-given

@@ -1,10 +1,7 @@
 use Rattle.std.specs.Vec.{vec_capacity, with_items}
 use Rattle.std.proofs.lemmas.List.{with_items_is}
-use Rattle.std.proofs.Common.{ap, sym, refl, subst, ◌∙◌, ◌≡◌, ◌<◌, ◌≤◌, ◌-◌, ◌*◌, ◌/◌, ℕ, length, rules, arith}
-use Rattle.watch_core.specs.Trail.{Assignment, Entry, IsTrail}
-use Rattle.watch_core.specs.Places.{opposite_place}
-use Rattle.watch_core.proofs.Assign.{opposite_is}
-use Rattle.watch_core.proofs.TrailLemmas.{trail_is, mark_reads, order_now, waiting_first, waiting_none, kept_turn, above_turn, clear_ends, clear_whole, undone_all, kept_free}
+use Rattle.std.proofs.Common.{rules}
+use Rattle.watch_core.proofs.TrailLemmas.{trail_is, undone_all}
 use Rattle.watch_core.proofs.trail.Trail.undo_to.Goals as goal
 
 pub invariant_of-self : goal.invariant_of-self

@@ -1,10 +1,7 @@
-use Rattle.std.proofs.Common.{ap, sym, refl, subst, ◌∙◌, ◌≡◌, ◌<◌, ◌≤◌, ◌+◌, ℕ, length, rules, arith, inl, inr, Option, None}
-use Rattle.watch_core.specs.Places.{placed}
+use Rattle.std.proofs.Common.{ap, sym, refl, subst, ◌≡◌, ◌+◌, inr, None}
 use Rattle.watch_core.specs.Trail.{Assignment, places, value_of}
-use Rattle.watch_core.specs.Settled.{CanPropagate}
-use Rattle.watch_core.specs.Cover.{Propagates}
-use Rattle.watch_core.specs.Watched.{Clauses, IsHeld}
-use Rattle.watch_core.proofs.Held.{held_new, held_entered, held_undone, held_from, going_from, outcome_now}
+use Rattle.watch_core.specs.Watched.{Clauses}
+use Rattle.watch_core.proofs.Held.{held_entered}
 use Rattle.watch_core.proofs.watched.Watched.decide.Goals as goal
 
 pub invariant_of-self : goal.invariant_of-self

@@ -1,10 +1,9 @@
-use Rattle.std.proofs.Common.{ap, sym, refl, subst, ◌∙◌, ◌≡◌, ◌<◌, ◌≤◌, ◌+◌, ℕ, length, rules, arith, inl, inr, Option, None, List}
+use Rattle.std.proofs.Common.{ap, sym, subst, List}
 use Rattle.watch_core.specs.Places.{placed}
-use Rattle.watch_core.specs.Trail.{Assignment, places, value_of}
 use Rattle.watch_core.specs.Settled.{CanPropagate}
-use Rattle.watch_core.specs.Cover.{Propagates, AreReordered}
-use Rattle.watch_core.specs.Watched.{Clauses, IsHeld}
-use Rattle.watch_core.proofs.Held.{held_new, held_entered, held_undone, held_from, going_from, outcome_now}
+use Rattle.watch_core.specs.Cover.{AreReordered}
+use Rattle.watch_core.specs.Watched.{Clauses}
+use Rattle.watch_core.proofs.Held.{held_from, going_from, outcome_now}
 use Rattle.watch_core.proofs.Orders.{only_order}
 use Rattle.watch_core.proofs.watched.Watched.propagate.Goals as goal
 
