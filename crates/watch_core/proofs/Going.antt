@@ -81,7 +81,7 @@ covers_moved strong at clauses chains t s j g h known far lj eg open' isfalse =
       size = places_kept chains (put_first (taken_out chains s) g s) g s (2 * t.variables) refl h.size;
     }
 
-push_above : {L : Type 0} (es : List (Entry L)) (e : Entry L) (k : ℕ) → k < e.level → cut (es ++ e ∷ []) k ≡ cut es k
+pub push_above : {L : Type 0} (es : List (Entry L)) (e : Entry L) (k : ℕ) → k < e.level → cut (es ++ e ∷ []) k ≡ cut es k
 push_above {L} es e k h = filter-append (λ (x : Entry L). leb x.level k) es (e ∷ []) ∙ ap (λ xs. cut es k ++ xs) (left_out e [] k h) ∙ append-nil (cut es k)
 
 push_top : {L : Type 0} (at : L → ℕ) (es : List (Entry L)) (e : Entry L) (k j : ℕ) → e.level ≤ k → j ≤ k → All (λ (x : Entry L). x.level ≤ j) es → places at (cut (es ++ e ∷ []) k) ≡ places at (cut es j) ++ at e.literal ∷ []

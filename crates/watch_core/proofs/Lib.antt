@@ -11,3 +11,4 @@ pub mod Held
 pub mod Adds
 pub mod Looks
 pub mod SixClauses
+pub mod Ready
