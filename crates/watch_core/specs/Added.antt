@@ -12,6 +12,7 @@ standing_open set [] = False
 standing_open set (o ∷ []) = if is_true set o then Free else Unit
 standing_open set (o ∷ p ∷ ls) = Free
 
+-- the standing of a clause, by its literals that are not false
 abbrev pub standing_of : List ℕ → List ℕ → Standing
 standing_of set clause = standing_open set (open_literals set clause)
 

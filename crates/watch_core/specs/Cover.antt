@@ -10,9 +10,11 @@ use Rattle.watch_core.specs.Settled.{IsReason}
 abbrev pub clause_of : List (List ℕ) → ℕ → List ℕ
 clause_of clauses s = slice_index_or clauses (s / 2) []
 
+-- the literal that a seat watches
 abbrev pub watched_at : List (List ℕ) → ℕ → ℕ
 watched_at clauses s = slice_index_or (clause_of clauses s) (s % 2) 0
 
+-- the literal that the other seat of its clause watches
 abbrev pub beside : List (List ℕ) → ℕ → ℕ
 beside clauses s = slice_index_or (clause_of clauses s) (1 - s % 2) 0
 
@@ -27,6 +29,7 @@ pub record Watches (clauses chains : List (List ℕ)) : Type 0 where
   pub seats : (p s : ℕ) → Contains (chain_at chains p) s → IsWatch clauses p s
   pub watched : (p s : ℕ) → IsWatch clauses p s → Contains (chain_at chains p) s
 
+-- some literal of the clause is true
 abbrev pub HasTrue : List ℕ → List ℕ → Type 0
 HasTrue set clause = (l : ℕ) × Contains clause l × (is_true set l ≡ true)
 
@@ -40,6 +43,7 @@ Covered strong set waits clauses s =
     s / 2 < length clauses → 2 ≤ length (clause_of clauses s) → is_false set (watched_at clauses s) ≡ true → is_false waits (watched_at clauses s) ≡ false
     → HasTrue set (clause_of clauses s) ⊎ (AllBut set waits (clause_of clauses s) (beside clauses s) × (strong ≡ true → is_false waits (beside clauses s) ≡ true))
 
+-- each seat is covered
 abbrev pub AllCovered : Bool → List ℕ → List ℕ → List (List ℕ) → Type 0
 AllCovered strong set waits clauses = (s : ℕ) → Covered strong set waits clauses s
 
@@ -56,6 +60,7 @@ pub record IsCovered {L : Type 0} (strong : Bool) (at : L → ℕ) (clauses chai
   pub distinct : (c : ℕ) → IsDistinct (λ x y. x == y) (slice_index_or clauses c [])
   pub size : length chains ≡ 2 * t.variables
 
+-- what holds inside `propagate`: all waiting literals are of the current level
 pub record IsPropagating {L : Type 0} (at : L → ℕ) (clauses chains : List (List ℕ)) (t : Assignment L) : Type 0 where
   pub covers : IsCovered true at clauses chains t
   pub current : All (λ (e : Entry L). e.level ≡ t.level) (waiting t)

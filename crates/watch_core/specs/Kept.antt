@@ -4,18 +4,23 @@ use Rattle.watch_core.specs.Places.{is_true, is_false}
 use Rattle.watch_core.specs.Trail.{Entry, IsLeveled}
 use Rattle.watch_core.specs.declared.trail.Mark.{Mark}
 
+-- the mark of a variable that was never assigned
 abbrev pub blank : Mark
 blank = record { level = 0; reason = 4294967295 }
 
+-- the clause that a number stands for, if any
 abbrev pub reason_of : ℕ → Option ℕ
 reason_of n = if n == 4294967295 then None else Some n
 
+-- a true literal with what the mark of its variable says
 abbrev pub entry_of : {L : Type 0} → (L → ℕ) → List Mark → L → Entry L
 entry_of at marks l = record { literal = l; level = (slice_index_or marks (at l / 2) blank).level; reason = reason_of (slice_index_or marks (at l / 2) blank).reason }
 
+-- the entries of a trail
 abbrev pub entries_of : {L : Type 0} → (L → ℕ) → List Mark → List L → List (Entry L)
 entries_of at marks order = map (entry_of at marks) order
 
+-- the tables tell which literals are true and which are false, and each variable stands once
 pub record IsKept {L : Type 0} (at : L → ℕ) (values : List ℕ) (marks : List Mark) (order : List L) (capacity taken : ℕ) : Type 0 where
   pub sizes : length values ≡ 2 * length marks
   pub inside : All (λ l. at l < length values) order

@@ -21,6 +21,7 @@ abbrev pub SettledOrWaits : {L : Type 0} → (L → ℕ) → Assignment L → Li
 SettledOrWaits at t clauses =
     All (λ clause. 2 ≤ length clause → IsSettled (places at t.entries) clause ⊎ (list_any (λ l. is_true (places at (waiting t)) (opposite_place l)) clause ≡ true)) clauses
 
+-- all literals of a clause are false
 abbrev pub IsClauseFalse : List ℕ → List ℕ → Type 0
 IsClauseFalse set clause = list_all (is_false set) clause ≡ true
 
@@ -48,6 +49,7 @@ pub record IsInConflict {L : Type 0} (at : L → ℕ) (t : Assignment L) (clause
   pub current : All (λ (e : Entry L). e.level ≡ t.level) (waiting t)
   pub below : SettledBelow at t clauses
 
+-- None where propagation came to rest, else the number of a false clause
 abbrev pub Outcome : {L : Type 0} → (L → ℕ) → Assignment L → List (List ℕ) → Option ℕ → Type 0
 Outcome at t clauses None = IsAtRest at t clauses
 Outcome at t clauses (Some id) = IsInConflict at t clauses id

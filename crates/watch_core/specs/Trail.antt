@@ -2,20 +2,24 @@
 use Rattle.std.specs.Prelude.{ℕ, ◌+◌, ◌*◌, ◌/◌, ◌≢◌, ◌<◌, ◌≤◌, nat_le, Bool, true, false, List, [], ◌∷◌, ◌++◌, length, map, drop, filter, min, Option, Some, None, slice_index_or, if◌then◌else◌, All}
 use Rattle.watch_core.specs.Places.{is_true, is_false}
 
+-- a true literal, its level, and the clause that it follows from, if any
 pub record Entry (L : Type 0) : Type 0 where
   pub literal : L
   pub level : ℕ
   pub reason : Option ℕ
 
+-- the value of a trail: its entries in order, and how many of them propagation has taken in
 pub record Assignment (L : Type 0) : Type 0 where
   pub variables : ℕ
   pub entries : List (Entry L)
   pub level : ℕ
   pub taken : ℕ
 
+-- the true literals, the oldest first
 abbrev pub order : {L : Type 0} → List (Entry L) → List L
 order entries = map (λ e. e.literal) entries
 
+-- their places
 abbrev pub places : {L : Type 0} → (L → ℕ) → List (Entry L) → List ℕ
 places at entries = map (λ e. at e.literal) entries
 
@@ -27,6 +31,7 @@ cut entries level = filter (λ e. nat_le e.level level) entries
 abbrev pub waiting : {L : Type 0} → Assignment L → List (Entry L)
 waiting t = drop t.taken t.entries
 
+-- true, false, or not assigned
 abbrev pub value_of : List ℕ → ℕ → Option Bool
 value_of set l = if is_true set l then Some true else (if is_false set l then Some false else None)
 

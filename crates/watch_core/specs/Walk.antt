@@ -7,6 +7,7 @@ use Rattle.watch_core.specs.Cover.{clause_of, watched_at, HasTrue}
 use Rattle.watch_core.specs.declared.walk.Visit.{Visit}
 use Rattle.watch_core.specs.declared.walk.Visit.TheVariants.{Stays, Moved, False}
 
+-- a seat of a clause of two or more literals
 pub record IsSeat (clauses : List (List ℕ)) (seat : ℕ) : Type 0 where
   pub known : seat / 2 < length clauses
   pub long : 2 ≤ length (clause_of clauses seat)

@@ -4,6 +4,7 @@ use Rattle.watch_core.specs.Places.{placed}
 use Rattle.watch_core.specs.Trail.{Assignment}
 use Rattle.watch_core.specs.Cover.{IsCovered}
 
+-- the value of `Watched`
 pub record Clauses (L : Type 0) : Type 0 where
   pub clauses : List (List L)
   pub trail : Assignment L

@@ -1,7 +1,7 @@
 //! How a new clause stands, and the seats that it gets.
-ghost use Rattle.std.specs.Prelude.{ℕ, ◌≡◌, ◌+◌, ◌*◌, ◌/◌, ◌<◌, ◌≤◌, List, length, map, All};
+ghost use Rattle.std.specs.Prelude.{ℕ, ◌≡◌, ◌/◌, ◌<◌, length, map, All};
 ghost use Rattle.arena_core.specs.Chains.{IsSeated};
-ghost use Rattle.watch_core.specs.Trail.{Assignment, places};
+ghost use Rattle.watch_core.specs.Trail.{places};
 ghost use Rattle.watch_core.specs.Added.{CanAdd, standing_of, both_put};
 
 use crate::trail::{Trail, open_place};

@@ -1,8 +1,8 @@
 //! The trail: the true literals in order, with the level and the reason of each.
-ghost use Rattle.std.specs.Prelude.{IfOk, take, drop, slice_get, map, ◌⊎◌, ◌≡◌, ◌+◌, ◌*◌, ◌/◌, ◌<◌, ◌≤◌, List, ℕ, All, IfSome, IfNone, slice_index_or, [], ◌∷◌, ◌++◌, length, Option, Some, None, Bool, true, false};
+ghost use Rattle.std.specs.Prelude.{IfOk, take, slice_get, ◌⊎◌, ◌≡◌, ◌+◌, ◌*◌, ◌/◌, ◌<◌, ◌≤◌, ℕ, All, IfSome, IfNone, slice_index_or, length, Option, Some, None, true, false};
 ghost use Rattle.watch_core.specs.Places.{is_true, is_false};
 ghost use Rattle.watch_core.specs.Trail.{Assignment, Entry, IsTrail, order, places, cut, waiting, value_of, entered, assigned, decided, undone, one_taken, empty_trail};
-ghost use Rattle.watch_core.specs.Kept.{reason_of, entries_of, entry_of, IsKept};
+ghost use Rattle.watch_core.specs.Kept.{reason_of, entries_of, IsKept};
 
 use arena_core::{ClauseId, Lit};
 use std::alloc::{AllocError, Global};

@@ -1,8 +1,8 @@
 //! The walk along the chain of a literal that became false.
-ghost use Rattle.std.specs.Prelude.{◌≡◌, ◌+◌, ◌*◌, ◌<◌, ◌≤◌, List, [], length, map, drop, Option, IfSome, IfNone, true, slice_index_or};
+ghost use Rattle.std.specs.Prelude.{◌≡◌, ◌+◌, ◌*◌, ◌<◌, ◌≤◌, [], length, drop, Option, IfSome, IfNone, true};
 ghost use Rattle.arena_core.specs.Chains.{chain_at, AreApart};
 ghost use Rattle.watch_core.specs.Places.{is_false, placed};
-ghost use Rattle.watch_core.specs.Trail.{Assignment, places, waiting};
+ghost use Rattle.watch_core.specs.Trail.{places, waiting};
 ghost use Rattle.watch_core.specs.Settled.{IsFalseClause};
 ghost use Rattle.watch_core.specs.Cover.{IsPropagating, Propagates, watched_at};
 ghost use Rattle.watch_core.specs.Looks.{false_occurrences};

@@ -1,7 +1,7 @@
 //! Clauses with a trail, and propagation by watched seats.
-ghost use Rattle.std.specs.Prelude.{ℕ, Contains, ◌≡◌, ◌+◌, ◌*◌, ◌<◌, ◌≤◌, List, [], length, map, drop, ◌∷◌, ◌++◌, OnOk, OnErr, Option, None, IfOk, slice_index_or};
+ghost use Rattle.std.specs.Prelude.{ℕ, Contains, ◌≡◌, ◌+◌, ◌*◌, ◌<◌, ◌≤◌, [], length, map, drop, ◌∷◌, ◌++◌, OnOk, OnErr, Option, None, IfOk, slice_index_or};
 ghost use Rattle.watch_core.specs.Places.{placed};
-ghost use Rattle.watch_core.specs.Trail.{Assignment, IsTrail, places, waiting, value_of, assigned, decided, undone, empty_trail};
+ghost use Rattle.watch_core.specs.Trail.{IsTrail, places, waiting, value_of, assigned, decided, undone, empty_trail};
 ghost use Rattle.watch_core.specs.Settled.{CanPropagate, Outcome};
 ghost use Rattle.watch_core.specs.Cover.{Propagates, AreReordered};
 ghost use Rattle.watch_core.specs.Looks.{false_occurrences};
