@@ -1,0 +1,14 @@
+pub mod Assign
+pub mod Watches
+pub mod Orders
+pub mod Levels
+pub mod TrailLemmas
+pub mod Cover
+pub mod Going
+pub mod Steps
+pub mod Visit
+pub mod Held
+pub mod Adds
+pub mod Looks
+pub mod SixClauses
+pub mod Ready

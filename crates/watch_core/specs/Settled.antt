@@ -1,0 +1,61 @@
+-- When propagation has come to rest.
+use Rattle.std.specs.Prelude.{ℕ, ◌≡◌, ◌<◌, ◌≤◌, true, List, [], length, All, Option, Some, None, slice_index_or, Contains, ◌⊎◌, take}
+use Rattle.std.specs.List.{list_any, list_all}
+use Rattle.watch_core.specs.Places.{is_true, is_false, open_literals, opposite_place}
+use Rattle.watch_core.specs.Trail.{Assignment, Entry, places, cut, waiting}
+
+-- some literal is true, or at least two are not false
+abbrev pub IsSettled : List ℕ → List ℕ → Type 0
+IsSettled set clause = (list_any (is_true set) clause ≡ true) ⊎ (2 ≤ length (open_literals set clause))
+
+-- each clause of two or more literals is settled
+abbrev pub AllSettled : List ℕ → List (List ℕ) → Type 0
+AllSettled set clauses = All (λ clause. 2 ≤ length clause → IsSettled set clause) clauses
+
+-- the same under the trail cut at each level below one
+abbrev pub SettledBelow : {L : Type 0} → (L → ℕ) → Assignment L → List (List ℕ) → Type 0
+SettledBelow at t clauses = (level : ℕ) → level < t.level → AllSettled (places at (cut t.entries level)) clauses
+
+-- on the whole trail each clause is settled, or has the negation of a waiting literal
+abbrev pub SettledOrWaits : {L : Type 0} → (L → ℕ) → Assignment L → List (List ℕ) → Type 0
+SettledOrWaits at t clauses =
+    All (λ clause. 2 ≤ length clause → IsSettled (places at t.entries) clause ⊎ (list_any (λ l. is_true (places at (waiting t)) (opposite_place l)) clause ≡ true)) clauses
+
+-- all literals of a clause are false
+abbrev pub IsClauseFalse : List ℕ → List ℕ → Type 0
+IsClauseFalse set clause = list_all (is_false set) clause ≡ true
+
+-- what `propagate` asks for
+pub record CanPropagate {L : Type 0} (at : L → ℕ) (t : Assignment L) (clauses : List (List ℕ)) : Type 0 where
+  pub current : All (λ (e : Entry L). e.level ≡ t.level) (waiting t)
+  pub below : SettledBelow at t clauses
+  pub whole : SettledOrWaits at t clauses
+
+-- what `propagate` leaves where it comes to rest
+pub record IsAtRest {L : Type 0} (at : L → ℕ) (t : Assignment L) (clauses : List (List ℕ)) : Type 0 where
+  pub none_waits : waiting t ≡ []
+  pub below : SettledBelow at t clauses
+  pub whole : AllSettled (places at t.entries) clauses
+
+-- a clause of two or more literals that are all false
+pub record IsFalseClause (set : List ℕ) (clauses : List (List ℕ)) (id : ℕ) : Type 0 where
+  pub known : id < length clauses
+  pub long : 2 ≤ length (slice_index_or clauses id [])
+  pub literals : IsClauseFalse set (slice_index_or clauses id [])
+
+-- what it leaves where it met a false clause
+pub record IsInConflict {L : Type 0} (at : L → ℕ) (t : Assignment L) (clauses : List (List ℕ)) (id : ℕ) : Type 0 where
+  pub clause : IsFalseClause (places at t.entries) clauses id
+  pub current : All (λ (e : Entry L). e.level ≡ t.level) (waiting t)
+  pub below : SettledBelow at t clauses
+
+-- None where propagation came to rest, else the number of a false clause
+abbrev pub Outcome : {L : Type 0} → (L → ℕ) → Assignment L → List (List ℕ) → Option ℕ → Type 0
+Outcome at t clauses None = IsAtRest at t clauses
+Outcome at t clauses (Some id) = IsInConflict at t clauses id
+
+-- a literal that propagation assigned has a clause whose other literals were false before
+pub record IsReason {L : Type 0} (at : L → ℕ) (t : Assignment L) (clauses : List (List ℕ)) (k id : ℕ) : Type 0 where
+  pub known : id < length clauses
+  pub has : (e : Entry L) → Contains (slice_index_or clauses id []) (at (slice_index_or t.entries k e).literal)
+  pub false_before : (e : Entry L) → All (λ l. (l ≡ at (slice_index_or t.entries k e).literal) ⊎ (is_false (places at (take k t.entries)) l ≡ true)) (slice_index_or clauses id [])

@@ -1,0 +1,116 @@
+//! The walk along the chain of a literal that became false.
+ghost use Rattle.std.specs.Prelude.{◌≡◌, ◌+◌, ◌*◌, ◌<◌, ◌≤◌, [], length, drop, Option, IfSome, IfNone, true};
+ghost use Rattle.arena_core.specs.Chains.{chain_at, AreApart};
+ghost use Rattle.watch_core.specs.Places.{is_false, placed};
+ghost use Rattle.watch_core.specs.Trail.{places, waiting};
+ghost use Rattle.watch_core.specs.Settled.{IsFalseClause};
+ghost use Rattle.watch_core.specs.Cover.{IsPropagating, Propagates, watched_at};
+ghost use Rattle.watch_core.specs.Looks.{false_occurrences};
+ghost use Rattle.watch_core.specs.Walk.{IsSeat, Visited, AllWalked};
+
+use crate::trail::{Trail, open_place};
+use arena_core::{Arena, Chains, ClauseId, Lit, Seat, Steps};
+use std::sync::ledger::Ledger;
+
+/// What became of a visited seat.
+#[derive(Clone, Copy)]
+pub enum Visit {
+    /// It stays in the chain, and its clause has a true literal.
+    Stays,
+    /// It watches another literal now, which isn't false.
+    Moved,
+    /// All literals of its clause are false.
+    False,
+}
+
+/// Visits one seat of a literal that became false, at the price of one look.
+fn visit_seat<L: Lit, S: Ledger>(
+    arena: &mut Arena<L>,
+    chains: &mut Chains<L>,
+    trail: &mut Trail<L>,
+    seat: Seat,
+    looks: &mut Steps<S>,
+) -> Visit
+    requires going { IsPropagating L.table_place (placed L.table_place arena.old) chains.old.chains trail.old }
+    requires seat { IsSeat (placed L.table_place arena.old) seat }
+    requires waits { is_false (places L.table_place (waiting trail.old)) (watched_at (placed L.table_place arena.old) seat) ≡ true }
+    ensures going { IsPropagating L.table_place (placed L.table_place arena.new) chains.new.chains trail.new }
+    ensures goes { Propagates L.table_place (placed L.table_place arena.old) trail.old (placed L.table_place arena.new) trail.new }
+    ensures room { chains.new.room ≡ chains.old.room }
+    ensures taken { trail.new.taken ≡ trail.old.taken }
+    ensures look { looks.new ≡ looks.old + 1 }
+    ensures outcome { Visited L.table_place (placed L.table_place arena.old) chains.old.chains trail.old (placed L.table_place arena.new) chains.new.chains trail.new seat result }
+{
+    let id = seat.clause();
+    let side = seat.side();
+    let clause = arena.literals(id, looks);
+    let other = clause[1 - side as usize];
+    if trail.is_true(other) {
+        return Visit::Stays;
+    }
+    if let Some(j) = open_place(trail, clause) {
+        let to = clause[j];
+        arena.swap(id, side as u32, j as u32);
+        chains.move_seat(seat, to);
+        return Visit::Moved;
+    }
+    if trail.is_false(other) {
+        return Visit::False;
+    }
+    trail.assign(other, Some(id));
+    Visit::Stays
+}
+
+/// Walks along the chain of a literal that became false.
+fn walk<L: Lit, S: Ledger>(
+    arena: &mut Arena<L>,
+    chains: &mut Chains<L>,
+    trail: &mut Trail<L>,
+    literal: L,
+    looks: &mut Steps<S>,
+) -> Option<ClauseId>
+    requires going { IsPropagating L.table_place (placed L.table_place arena.old) chains.old.chains trail.old }
+    requires waits { is_false (places L.table_place (waiting trail.old)) (L.table_place literal) ≡ true }
+    requires place { L.table_place literal < 2 * trail.old.variables }
+    ensures going { IsPropagating L.table_place (placed L.table_place arena.new) chains.new.chains trail.new }
+    ensures goes { Propagates L.table_place (placed L.table_place arena.old) trail.old (placed L.table_place arena.new) trail.new }
+    ensures room { chains.new.room ≡ chains.old.room }
+    ensures taken { trail.new.taken ≡ trail.old.taken }
+    ensures apart { AreApart chains.old.chains }
+    ensures looks { looks.new ≤ looks.old + length (chain_at chains.old.chains (L.table_place literal)) }
+    ensures none { IfNone result (AllWalked (places L.table_place trail.new.entries) (placed L.table_place arena.new) (L.table_place literal)) }
+    ensures some { IfSome result (IsFalseClause (places L.table_place trail.new.entries) (placed L.table_place arena.new)) }
+{
+    let mut current = chains.first(literal);
+    while let Some(seat) = current {
+        current = chains.next(seat);
+        if let Visit::False = visit_seat(arena, chains, trail, seat, looks) {
+            return Some(seat.clause());
+        }
+    }
+    None
+}
+
+/// Walks along the chain of the negation of each waiting literal, the oldest first.
+pub(crate) fn propagate_all<L: Lit, S: Ledger>(
+    arena: &mut Arena<L>,
+    chains: &mut Chains<L>,
+    trail: &mut Trail<L>,
+    looks: &mut Steps<S>,
+) -> Option<ClauseId>
+    requires going { IsPropagating L.table_place (placed L.table_place arena.old) chains.old.chains trail.old }
+    ensures going { IsPropagating L.table_place (placed L.table_place arena.new) chains.new.chains trail.new }
+    ensures goes { Propagates L.table_place (placed L.table_place arena.old) trail.old (placed L.table_place arena.new) trail.new }
+    ensures room { chains.new.room ≡ chains.old.room }
+    ensures looks { looks.new ≤ looks.old + false_occurrences (placed L.table_place arena.old) (places L.table_place (drop trail.old.taken trail.new.entries)) }
+    ensures none { IfNone result (waiting trail.new ≡ []) }
+    ensures some { IfSome result (IsFalseClause (places L.table_place trail.new.entries) (placed L.table_place arena.new)) }
+{
+    while let Some(literal) = trail.first_waiting() {
+        if let Some(id) = walk(arena, chains, trail, literal.negation(), looks) {
+            return Some(id);
+        }
+        trail.take_one();
+    }
+    None
+}
