@@ -1,0 +1,8 @@
+pub mod Indices
+pub mod FaultLemmas
+pub mod AcceptedLemmas
+pub mod CategoryLemmas
+pub mod OrderLemmas
+pub mod ThresholdLemmas
+pub mod RootLemmas
+pub mod BelongsLemmas
