@@ -1,0 +1,5 @@
+pub mod Steps
+pub mod RowFacts
+pub mod Reaches
+pub mod Classifying
+pub mod Missed

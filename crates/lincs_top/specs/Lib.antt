@@ -1,0 +1,10 @@
+pub mod Command
+pub mod Ending
+pub mod Classified
+pub mod Course
+pub mod FileStep
+pub mod Rows
+pub mod Refusal
+pub mod Stop
+pub mod Obeys
+pub mod Run

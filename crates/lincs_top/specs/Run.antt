@@ -1,0 +1,54 @@
+-- What a whole run does.
+use Rattle.std.specs.Prelude.{◌≡◌, ◌++◌, ℕ, List, [], Some, None, take, IsTrue, All, Contains, Option}
+use Rattle.std.specs.Option.{ForSome}
+use Rattle.std.specs.Io.KnownBytes.{Appends}
+use Rattle.edge_core.specs.Outside.{Files, ShelfState, SinkState, Rose, AppendsPart}
+use Rattle.lincs_top.specs.declared.stop.Status.{Status}
+use Rattle.lincs_top.specs.declared.stop.Status.TheVariants as status
+use Rattle.lincs_top.specs.Command.{Command, command_in, names_of}
+use Rattle.lincs_top.specs.Ending.{unread, Ending, status_of_end}
+use Rattle.lincs_top.specs.Course.{Ends, readable, unreadable_at}
+use Rattle.lincs_top.specs.Obeys.{LeavesOnNoMemory}
+
+-- the command's files may be opened
+abbrev pub MayOpen : ShelfState → Command → Type 0
+MayOpen shelf command = All (λ name. IsTrue (shelf.may_open name)) (names_of command)
+
+-- the status comes from the end of a course, and from nothing else
+abbrev pub IsCourseStatus : Status → Type 0
+IsCourseStatus status.Done = Unit {0}
+IsCourseStatus status.No = Unit {0}
+IsCourseStatus status.Refused = Unit {0}
+IsCourseStatus status.Limit = Unit {0}
+IsCourseStatus status.TooLarge = Unit {0}
+IsCourseStatus status.Usage = ⊥
+IsCourseStatus status.ReadFault = ⊥
+IsCourseStatus status.WriteFault = ⊥
+IsCourseStatus status.NoMemory = ⊥
+
+-- over the files that the shelf tells, a course of the words' command ends with this status, and its whole output went out
+abbrev pub CourseEnds : List (List ℕ) → ShelfState → SinkState → SinkState → Status → Type 0
+CourseEnds words shelf out out' status = ForSome (command_in words) (λ command. (files : Files) → shelf.held ≡ Some files → (
+    (ending : Ending) × Ends command (readable files) ending × (status_of_end ending.end ≡ status) × Appends out.written out'.written ending.output))
+
+-- a part of the output of a course went out, and something was still to go
+abbrev pub CourseWrites : List (List ℕ) → ShelfState → SinkState → SinkState → Type 0
+CourseWrites words shelf out out' = ForSome (command_in words) (λ command. (files : Files) → shelf.held ≡ Some files → (
+    (ending : Ending) × Ends command (readable files) ending × AppendsPart out.written out'.written ending.output))
+
+-- the missed name is that of a file of the words' command, and the files before it passed their steps
+abbrev pub MissesAFile : List (List ℕ) → ShelfState → ShelfState → Type 0
+MissesAFile words shelf shelf' = ForSome (command_in words) (λ command. (name : List ℕ) × (shelf'.missed ≡ Some name) × Contains (names_of command) name
+    × ((files : Files) → shelf.held ≡ Some files → ((place : ℕ) × (ending : Ending) × Ends command (unreadable_at files place) ending × (ending.end ≡ unread name))))
+
+-- where memory is refused nothing was written, or a prefix of the output of a course
+abbrev pub MemoryLeaves : List (List ℕ) → ShelfState → SinkState → SinkState → Type 0
+MemoryLeaves words shelf out out' = ForSome (command_in words) (λ command. LeavesOnNoMemory command shelf out out')
+
+-- the names that were opened are the first ones of the words' command, in order and each once
+abbrev pub names_in : Option Command → List (List ℕ)
+names_in None = []
+names_in (Some command) = names_of command
+
+abbrev pub OpensInOrder : List (List ℕ) → ShelfState → ShelfState → Type 0
+OpensInOrder words shelf shelf' = (k : ℕ) × (shelf'.asked ≡ shelf.asked ++ take k (names_in (command_in words)))

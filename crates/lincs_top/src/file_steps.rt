@@ -1,0 +1,146 @@
+//! The steps of the files: each opens one file and reads what it holds.
+ghost use Rattle.std.specs.Prelude.{◌≡◌, IsTrue, IfOk};
+ghost use Rattle.model_core.specs.Model.{Belongs};
+ghost use Rattle.table_core.specs.Table.{IsTableOf};
+ghost use Rattle.lincs_top.specs.Course.{tree_at, problem_at, model_at, table_at};
+ghost use Rattle.lincs_top.specs.Refusal.{yaml_refusal, problem_refusal, model_refusal, table_refusal};
+ghost use Rattle.lincs_top.specs.FileStep.{AnswersAs, AnswersBytes, OpensOne};
+
+use crate::stop::{Refusal, Stop};
+use edge_core::{LoadFault, Shelf, load};
+use model_core::{ModelFault, RootsModel, read_model};
+use problem_core::{Problem, ProblemFault, read_problem};
+use std::alloc::Global;
+use table_core::{Table, TableFault};
+use yaml_core::{Node, YamlFault, read_yaml};
+
+// What a reader's fault refuses a file for; nothing where memory was refused.
+fn yaml_refusal(fault: YamlFault) -> Option<Refusal>
+    ensures { result ≡ yaml_refusal fault }
+{
+    match fault {
+        YamlFault::NoMemory => None,
+        _ => Some(Refusal::Yaml(fault)),
+    }
+}
+
+fn problem_refusal(fault: ProblemFault) -> Option<Refusal>
+    ensures { result ≡ problem_refusal fault }
+{
+    match fault {
+        ProblemFault::NoMemory => None,
+        _ => Some(Refusal::Problem(fault)),
+    }
+}
+
+fn model_refusal(fault: ModelFault) -> Option<Refusal>
+    ensures { result ≡ model_refusal fault }
+{
+    match fault {
+        ModelFault::NoMemory => None,
+        _ => Some(Refusal::Model(fault)),
+    }
+}
+
+fn table_refusal(fault: TableFault) -> Option<Refusal>
+    ensures { result ≡ table_refusal fault }
+{
+    match fault {
+        TableFault::NoMemory => None,
+        _ => Some(Refusal::Table(fault)),
+    }
+}
+
+// The bytes of a file.
+fn read_file<'a, S: Shelf>(alloc: Global, shelf: &mut S, name: &'a str) -> Result<Vec<u8>, Stop<'a>>
+    requires { IsTrue ((S.state shelf.old).may_open name.now) }
+    ensures opens { OpensOne (S.state shelf.old) (S.state shelf.new) name.now }
+    ensures step { AnswersBytes (S.state shelf.old) (S.state shelf.new) name.now result }
+{
+    match load(alloc, shelf, name) {
+        Ok(bytes) => Ok(bytes),
+        Err(LoadFault::Read) => Err(Stop::Unread(name)),
+        Err(LoadFault::TooLong) => Err(Stop::Refused(name, Refusal::TooLong)),
+        Err(LoadFault::NoMemory) => Err(Stop::NoMemory),
+    }
+}
+
+// The tree of a file.
+fn read_tree<'a, S: Shelf>(alloc: Global, shelf: &mut S, name: &'a str) -> Result<Node, Stop<'a>>
+    requires { IsTrue ((S.state shelf.old).may_open name.now) }
+    ensures opens { OpensOne (S.state shelf.old) (S.state shelf.new) name.now }
+    ensures step { AnswersAs (S.state shelf.old) (S.state shelf.new) tree_at name.now result }
+{
+    let bytes = match read_file(alloc, shelf, name) {
+        Ok(bytes) => bytes,
+        Err(stop) => return Err(stop),
+    };
+    match read_yaml(alloc, &bytes) {
+        Ok(node) => Ok(node),
+        Err(fault) => Err(Stop::refusing(name, yaml_refusal(fault))),
+    }
+}
+
+/// The problem of a file.
+pub fn problem_of_file<'a, S: Shelf>(
+    alloc: Global,
+    shelf: &mut S,
+    name: &'a str,
+) -> Result<Problem, Stop<'a>>
+    requires { IsTrue ((S.state shelf.old).may_open name.now) }
+    ensures opens { OpensOne (S.state shelf.old) (S.state shelf.new) name.now }
+    ensures step { AnswersAs (S.state shelf.old) (S.state shelf.new) problem_at name.now result }
+{
+    let node = match read_tree(alloc, shelf, name) {
+        Ok(node) => node,
+        Err(stop) => return Err(stop),
+    };
+    match read_problem(alloc, &node) {
+        Ok(problem) => Ok(problem),
+        Err(fault) => Err(Stop::refusing(name, problem_refusal(fault))),
+    }
+}
+
+/// The model of a file, for a problem.
+pub fn model_of_file<'a, S: Shelf>(
+    alloc: Global,
+    problem: &Problem,
+    shelf: &mut S,
+    name: &'a str,
+) -> Result<RootsModel, Stop<'a>>
+    requires { IsTrue ((S.state shelf.old).may_open name.now) }
+    ensures opens { OpensOne (S.state shelf.old) (S.state shelf.new) name.now }
+    ensures step { AnswersAs (S.state shelf.old) (S.state shelf.new) (model_at problem.now) name.now result }
+    ensures belongs { IfOk result (Belongs problem.now) }
+{
+    let node = match read_tree(alloc, shelf, name) {
+        Ok(node) => node,
+        Err(stop) => return Err(stop),
+    };
+    match read_model(alloc, problem, &node) {
+        Ok(model) => Ok(model),
+        Err(fault) => Err(Stop::refusing(name, model_refusal(fault))),
+    }
+}
+
+/// The table of a file, opened before its first row.
+pub fn table_of_file<'a, S: Shelf>(
+    alloc: Global,
+    problem: &Problem,
+    shelf: &mut S,
+    name: &'a str,
+) -> Result<Table, Stop<'a>>
+    requires { IsTrue ((S.state shelf.old).may_open name.now) }
+    ensures opens { OpensOne (S.state shelf.old) (S.state shelf.new) name.now }
+    ensures step { AnswersAs (S.state shelf.old) (S.state shelf.new) (table_at problem.now) name.now result }
+    ensures fits { IfOk result (IsTableOf problem.now) }
+{
+    let bytes = match read_file(alloc, shelf, name) {
+        Ok(bytes) => bytes,
+        Err(stop) => return Err(stop),
+    };
+    match Table::open(alloc, problem, bytes) {
+        Ok(table) => Ok(table),
+        Err(fault) => Err(Stop::refusing(name, table_refusal(fault))),
+    }
+}
