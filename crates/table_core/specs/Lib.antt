@@ -4,4 +4,5 @@ pub mod Header
 pub mod Row
 pub mod Table
 pub mod Rows
+pub mod Answers
 pub mod Written

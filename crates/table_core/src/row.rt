@@ -1,7 +1,8 @@
 //! Rows: what a table says of one alternative.
-ghost use Rattle.std.specs.Prelude.{◌≡◌, ◌⊎◌, ◌<◌, ◌≤◌, length, Ok, Err, MatchResult};
+ghost use Rattle.std.specs.Prelude.{◌≡◌, ◌≤◌, length};
 ghost use Rattle.csv.specs.Records.{fields_of};
 ghost use Rattle.problem_core.specs.declared.problem.TheConstants.{MOST_CRITERIA};
+ghost use Rattle.table_core.specs.Answers.{AnswersAs};
 ghost use Rattle.table_core.specs.Row.{field_category, grades_of, row_of};
 ghost use Rattle.table_core.specs.Table.{cells_at, row_at, AreColumns};
 
@@ -36,7 +37,8 @@ fn read_grades(
     grades: &mut Vec<Grade>,
 ) -> Result<(), RowFault>
     requires { length columns.now ≡ length problem.now.criteria }
-    ensures answer { MatchResult result (λ _. grades_of row 0 problem.now.criteria (cells_at columns.now (fields_of record.now)) ≡ Ok grades.new.items) (λ fault. (fault ≡ RowFault.NoMemory) ⊎ (grades_of row 0 problem.now.criteria (cells_at columns.now (fields_of record.now)) ≡ Err fault)) }
+    ensures answer { let cells = cells_at columns.now (fields_of record.now) in
+        AnswersAs RowFault.NoMemory result (grades_of row 0 problem.now.criteria cells) (λ _. grades.new.items) }
     ensures few { length grades.new.items ≤ MOST_CRITERIA }
 {
     grades.clear();
@@ -83,7 +85,9 @@ pub fn read_row(
     grades: &mut Vec<Grade>,
 ) -> Result<Option<u32>, RowFault>
     requires { AreColumns problem.now (fields_of header.now) columns.now }
-    ensures answer { MatchResult result (λ category. row_of problem.now (fields_of header.now) row (fields_of record.now) ≡ Ok (row_at columns.now (fields_of record.now) grades.new.items category)) (λ fault. (fault ≡ RowFault.NoMemory) ⊎ (row_of problem.now (fields_of header.now) row (fields_of record.now) ≡ Err fault)) }
+    ensures answer { let fields = fields_of record.now in
+        AnswersAs RowFault.NoMemory result (row_of problem.now (fields_of header.now) row fields)
+        (λ category. row_at columns.now fields grades.new.items category) }
     ensures few { length grades.old.items ≤ MOST_CRITERIA → length grades.new.items ≤ MOST_CRITERIA }
 {
     if record.len() != header.len() {

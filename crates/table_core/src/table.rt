@@ -1,9 +1,10 @@
 //! Tables: a header, and rows that are read one after another.
-ghost use Rattle.std.specs.Prelude.{◌≡◌, ◌⊎◌, ◌+◌, ◌≤◌, ◌<◌, [], ◌++◌, ◌∷◌, length, drop, Some, None, Ok, Err, slice_get, slice_index_or, is_some, IsSome, IfSome, IfOk, IfErr, OnOk, OnErr, MatchResult, if◌then◌else◌};
+ghost use Rattle.std.specs.Prelude.{◌≡◌, ℕ, ◌+◌, ◌≤◌, ◌<◌, [], ◌++◌, ◌∷◌, length, drop, Some, None, Ok, Err, slice_get, slice_index_or, is_some, IsSome, IfSome, IfOk, IfErr, OnOk, OnErr, if◌then◌else◌};
 ghost use Rattle.std.specs.List.{flat_map};
 ghost use Rattle.csv.specs.Records.{fields_of};
 ghost use Rattle.csv.specs.Writing.{comma};
 ghost use Rattle.lists_core.specs.Puts.{Puts};
+ghost use Rattle.table_core.specs.Answers.{AnswersAs};
 ghost use Rattle.table_core.specs.Table.{cells_at, next_row, opening, IsTableOf};
 ghost use Rattle.table_core.specs.Written.{field_text, record_text, row_fields};
 
@@ -53,7 +54,8 @@ fn put_columns(
     record: &StringRecord,
     out: &mut Vec<u8>,
 ) -> Result<(), AllocError>
-    ensures { Puts out.old.items out.new.items result (flat_map (λ column. comma ∷ field_text (slice_index_or (fields_of record.now) column [])) columns.now) }
+    ensures { let piece = λ (column : ℕ). comma ∷ field_text (slice_index_or (fields_of record.now) column []) in
+        Puts out.old.items out.new.items result (flat_map piece columns.now) }
 {
     for column in columns {
         put_next(field(record, *column).as_bytes(), out)?;
@@ -68,7 +70,10 @@ fn put_fields(
     category: &str,
     out: &mut Vec<u8>,
 ) -> Result<(), AllocError>
-    ensures { Puts out.old.items out.new.items result (record_text (slice_index_or (fields_of record.now) columns.now.name [] ∷ (cells_at columns.now.criteria.items (fields_of record.now) ++ category.now ∷ []))) }
+    ensures { let fields = fields_of record.now in
+        let name = slice_index_or fields columns.now.name [] in
+        let cells = cells_at columns.now.criteria.items fields in
+        Puts out.old.items out.new.items result (record_text (name ∷ (cells ++ category.now ∷ []))) }
 {
     put_field(field(record, columns.name).as_bytes(), out)?;
     put_columns(&columns.criteria, record, out)?;
@@ -101,7 +106,7 @@ impl Table {
     /// Opens the table of a file, of which the problem accepts the header.
     pub fn open(alloc: Global, problem: &Problem, bytes: Vec<u8>) -> Result<Table, TableFault>
         requires { length bytes.items ≤ MOST_BYTES }
-        ensures answer { MatchResult result (λ table. opening problem.now bytes.items ≡ Ok table) (λ fault. (fault ≡ TableFault.NoMemory) ⊎ (opening problem.now bytes.items ≡ Err fault)) }
+        ensures answer { AnswersAs TableFault.NoMemory result (opening problem.now bytes.items) (λ table. table) }
         ensures fits { IfOk result (λ table. IsTableOf problem.now table) }
     {
         if str::from_utf8(&bytes).is_err() {
@@ -137,7 +142,7 @@ impl Table {
     /// that fault.
     pub fn advance(&mut self, problem: &Problem) -> Result<bool, RowFault>
         requires { IsTableOf problem.now self.old }
-        ensures answer { MatchResult result (λ _. next_row problem.now self.old ≡ Ok self.new.current) (λ fault. (fault ≡ RowFault.NoMemory) ⊎ (next_row problem.now self.old ≡ Err fault)) }
+        ensures answer { AnswersAs RowFault.NoMemory result (next_row problem.now self.old) (λ _. self.new.current) }
         ensures found { IfOk result (λ found. found ≡ is_some self.new.current) }
 
         // A record was taken from those that are left, where there was one.
@@ -202,7 +207,7 @@ impl Table {
     /// The next row, if there is one, as a value of its own. After a fault each further call answers that fault.
     pub fn next(&mut self, problem: &Problem) -> Result<Option<Row>, RowFault>
         requires { IsTableOf problem.now self.old }
-        ensures answer { MatchResult result (λ row. next_row problem.now self.old ≡ Ok row) (λ fault. (fault ≡ RowFault.NoMemory) ⊎ (next_row problem.now self.old ≡ Err fault)) }
+        ensures answer { AnswersAs RowFault.NoMemory result (next_row problem.now self.old) (λ row. row) }
         ensures current { IfOk result (λ row. self.new.current ≡ row) }
 
         // A record was taken from those that are left, where there was one.
