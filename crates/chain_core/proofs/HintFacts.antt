@@ -1,15 +1,12 @@
 -- The words of a lemma line, as a reader goes through them.
-use Rattle.std.proofs.Common.{◌≡◌, ◌≢◌, ℕ, zero, suc, ◌+◌, ◌-◌, ◌<◌, ◌≤◌, ◌==◌, ◌&&◌, nat_lt, nat_le, Bool, true, false, cond, List, [], ◌∷◌, ◌++◌, length, take, drop, Option, Some, None, refl, sym, ◌∙◌, ap, arith, eq-eqb, subst, ◌⊎◌, inl, inr}
+use Rattle.std.proofs.Common.{◌≡◌, ◌≢◌, ℕ, ◌+◌, ◌-◌, ◌<◌, ◌≤◌, ◌==◌, true, false, cond, List, [], ◌∷◌, ◌++◌, length, drop, Option, Some, None, refl, sym, ◌∙◌, ap, arith, eq-eqb, subst, inl, inr}
 use Rattle.std.specs.Prelude.{option_map}
 use Rattle.std.specs.List.{All}
-use Rattle.std.proofs.lemmas.Bool.{false≢true}
-use Rattle.std.proofs.lemmas.Bool.Decides.{nat_tests, eqb_tells}
+use Rattle.std.proofs.lemmas.Bool.Decides.{eqb_tells}
 use Rattle.std.proofs.lemmas.List.{append-nil, append_assoc, drop-drop, length-drop}
 use Rattle.std.proofs.lemmas.List.Elements.{All-cons, All-nil}
-use Rattle.chain_core.specs.Reading.{words_of, number_in, place_in, hints_in, hints_then, literals_in, literals_then, lemma_in, lemma_from, lemma_of_words}
+use Rattle.chain_core.specs.Reading.{words_of, number_in, hints_in, hints_then}
 use Rattle.chain_core.specs.Front.{words_after, StartsWith, StartsWithOther}
-use Rattle.chain_core.specs.Lemma.{IsNumbered}
-use Rattle.chain_core.specs.declared.log.Lemma.{Lemma}
 use Rattle.chain_core.proofs.NumberFacts.{split_some, after_end, after_space, no_test}
 
 is_zero : (v : ℕ) → v ≡ 0 → (v == 0) ≡ true

@@ -1,9 +1,8 @@
 -- The text of a log reads as that log, and no other text does.
-use Rattle.std.proofs.Common.{◌≡◌, ◌≢◌, ℕ, zero, suc, ◌+◌, ◌*◌, ◌^◌, ◌<◌, ◌≤◌, ◌==◌, ◌&&◌, nat_lt, nat_le, Bool, true, false, cond, List, [], ◌∷◌, ◌++◌, length, map, Option, Some, None, refl, sym, ◌∙◌, ap, arith, rules, eq-eqb, subst, ◌↔◌, inl, inr}
+use Rattle.std.proofs.Common.{◌≡◌, ◌≢◌, ℕ, ◌+◌, ◌*◌, ◌<◌, ◌≤◌, ◌==◌, ◌&&◌, nat_lt, nat_le, Bool, true, false, cond, List, [], ◌∷◌, ◌++◌, length, map, Option, Some, None, refl, sym, ◌∙◌, ap, arith, rules, eq-eqb, subst, ◌↔◌, inl, inr}
 use Rattle.std.specs.Prelude.{option_map, decimal, codes, Result, Ok, Err}
-use Rattle.std.specs.List.{All, flat_map, slice_split, join_with_byte}
+use Rattle.std.specs.List.{All, flat_map, join_with_byte}
 use Rattle.std.specs.Str.{bytes_eq}
-use Rattle.std.proofs.lemmas.Bool.{false≢true}
 use Rattle.std.proofs.lemmas.Bool.Decides.{nat_tests, eqb_tells}
 use Rattle.std.proofs.lemmas.List.{append_assoc}
 use Rattle.std.proofs.lemmas.List.Elements.{All-cons, All-nil, All-head, All-tail, All-append, All-map, All-weaker, All-from_recursion}
@@ -16,10 +15,10 @@ use Rattle.chain_core.specs.Reading.{words_of, lines_of, number_in, place_in, hi
 use Rattle.chain_core.specs.declared.encoding.Encoding.{Encoding}
 use Rattle.chain_core.specs.declared.encoding.Encoding.TheVariants.{Separation}
 use Rattle.chain_core.specs.declared.fault.LogFault.{LogFault}
-use Rattle.chain_core.specs.declared.fault.LogFault.TheVariants.{Header, Shape}
+use Rattle.chain_core.specs.declared.fault.LogFault.TheVariants.{Shape}
 use Rattle.chain_core.specs.declared.log.Lemma.{Lemma}
-use Rattle.chain_core.proofs.ChainFacts.{true_or_false, both_true}
-use Rattle.chain_core.proofs.NumberFacts.{split_some, no_test, told_same, plain_place}
+use Rattle.chain_core.proofs.ChainFacts.{true_or_false}
+use Rattle.chain_core.proofs.NumberFacts.{split_some, no_test, plain_place}
 use Rattle.chain_core.proofs.HintFacts.{zero_then, one_then}
 use Rattle.chain_core.proofs.WordFacts.{word_of_number, number_small, decimal_number, zero_number, word_of_place, literal_place, split_join, free_joined, decimal_free, literal_free, some_of}
 

@@ -46,7 +46,8 @@ impl Accepted {
 /// The log is dropped where it is refused.
 #[tactic(auto, using(crate::proofs::GoodFacts::refutation_law))]
 pub fn check(alloc: Global, formula: &Formula, log: Log) -> Result<Accepted, CheckFault>
-    ensures answer { MatchResult result (λ accepted. (accepted ≡ log) × IsRefutation formula.now log) (λ fault. (fault ≡ NoMemory) ⊎ (refutation_fault formula.now log ≡ Some fault)) }
+    ensures answer { MatchResult result (λ accepted. (accepted ≡ log) × IsRefutation formula.now log)
+        (λ fault. (fault ≡ NoMemory) ⊎ (refutation_fault formula.now log ≡ Some fault)) }
     ensures exact { (refutation_fault formula.now log ≡ None) ↔ IsRefutation formula.now log }
     ensures unsatisfiable { OnOk result (IsUnsatisfiable formula.now) }
 {
@@ -67,7 +68,8 @@ fn check_lines(formula: &Formula, log: &Log, stamps: &mut [u32]) -> Result<(), C
     requires size { length stamps.old ≡ 2 * formula.now.variables + 2 }
     requires bound { All (λ s. s ≤ 0) stamps.old }
     requires range { InRange formula.now.variables formula.now.clauses }
-    ensures { MatchResult result (λ _. first_fault formula.now.variables formula.now.clauses 2 log.now ≡ None) (λ fault. first_fault formula.now.variables formula.now.clauses 2 log.now ≡ Some fault) }
+    ensures { MatchResult result (λ _. first_fault formula.now.variables formula.now.clauses 2 log.now ≡ None)
+        (λ fault. first_fault formula.now.variables formula.now.clauses 2 log.now ≡ Some fault) }
 {
     let count = log.count();
     for k in 0..count {
@@ -90,7 +92,9 @@ fn check_lemma(
     requires size { length stamps.old ≡ 2 * formula.now.variables + 2 }
     requires bound { All (λ s. s ≤ k) stamps.old }
     requires range { InRange formula.now.variables (known_before formula.now log.now k) }
-    ensures answer { MatchResult result (λ _. lemma_fault formula.now.variables (known_before formula.now log.now k) (k + 2) lemma.now ≡ None) (λ fault. lemma_fault formula.now.variables (known_before formula.now log.now k) (k + 2) lemma.now ≡ Some fault) }
+    ensures answer { MatchResult result
+        (λ _. lemma_fault formula.now.variables (known_before formula.now log.now k) (k + 2) lemma.now ≡ None)
+        (λ fault. lemma_fault formula.now.variables (known_before formula.now log.now k) (k + 2) lemma.now ≡ Some fault) }
     ensures range { OnOk result (All (λ l. variable_of l ≤ formula.now.variables) lemma.now.literals) }
     ensures bound { All (λ s. s ≤ k + 1) stamps.new }
 {

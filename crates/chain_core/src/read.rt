@@ -25,8 +25,12 @@ const PLACES: u64 = 4_294_967_296;
 /// Reads the text of a log: its encoding and its lemmas.
 pub fn read_log(alloc: Global, bytes: &[u8]) -> Result<(Encoding, Log), LogFault>
     requires { length bytes.now ≤ MOST_BYTES }
-    ensures answer { MatchResult result (λ read. log_of bytes.now ≡ Ok read) (λ fault. (fault ≡ NoMemory) ⊎ (log_of bytes.now ≡ Err fault)) }
-    ensures text { (encoding : Encoding) (log : List Lemma) → (log_of bytes.now ≡ Ok (encoding, log)) ↔ ((bytes.now ≡ log_text encoding log) × All IsWritable log) }
+    ensures answer { MatchResult result (λ read. log_of bytes.now ≡ Ok read)
+        (λ fault. (fault ≡ NoMemory) ⊎ (log_of bytes.now ≡ Err fault)) }
+
+    // It is read exactly where it is the text of an encoding and of lemmas with numbers in their limits.
+    ensures text { (encoding : Encoding) (log : List Lemma)
+        → (log_of bytes.now ≡ Ok (encoding, log)) ↔ ((bytes.now ≡ log_text encoding log) × All IsWritable log) }
 {
     let Some(end) = line_end(bytes) else {
         return Err(LogFault::Header);
@@ -60,7 +64,8 @@ fn encoding_of(line: &[u8]) -> Option<Encoding>
 fn read_lemmas(alloc: Global, bytes: &[u8], from: usize) -> Result<Log, LogFault>
     requires few { length bytes.now ≤ MOST_BYTES }
     requires from { from ≤ length bytes.now }
-    ensures { MatchResult result (λ log. lemmas_in 2 (lines_of (drop from bytes.now)) ≡ Ok log) (λ fault. (fault ≡ NoMemory) ⊎ (lemmas_in 2 (lines_of (drop from bytes.now)) ≡ Err fault)) }
+    ensures { MatchResult result (λ log. lemmas_in 2 (lines_of (drop from bytes.now)) ≡ Ok log)
+        (λ fault. (fault ≡ NoMemory) ⊎ (lemmas_in 2 (lines_of (drop from bytes.now)) ≡ Err fault)) }
 {
     let mut log = Log::new(alloc);
     let mut literals = Vec::new(alloc);
@@ -92,7 +97,8 @@ fn read_lemma(
     hints: &mut Vec<u32>,
 ) -> Result<Lemma, LogFault>
     requires { length text.now ≤ MOST_BYTES }
-    ensures answer { MatchResult result (λ lemma. lemma_in text.now ≡ Some lemma) (λ fault. (fault ≡ NoMemory) ⊎ ((fault ≡ Shape line) × (lemma_in text.now ≡ None))) }
+    ensures answer { MatchResult result (λ lemma. lemma_in text.now ≡ Some lemma)
+        (λ fault. (fault ≡ NoMemory) ⊎ ((fault ≡ Shape line) × (lemma_in text.now ≡ None))) }
     ensures numbered { IfOk result IsNumbered }
 {
     literals.clear();
@@ -130,7 +136,10 @@ fn read_literals(
 ) -> Result<usize, LogFault>
     requires few { length text.now ≤ MOST_BYTES }
     requires from { from ≤ length text.now }
-    ensures answer { MatchResult result (λ next. (next ≤ length text.now) × ((read : List ℕ) × (literals.new.items ≡ literals.old.items ++ read) × (literals_in (words_of (drop from text.now)) ≡ option_map (λ hs. (read, hs)) (hints_in (words_of (drop next text.now)))))) (λ fault. (fault ≡ NoMemory) ⊎ ((fault ≡ Shape line) × (literals_in (words_of (drop from text.now)) ≡ None))) }
+    ensures answer { MatchResult result
+        (λ next. (next ≤ length text.now) × ((read : List ℕ) × (literals.new.items ≡ literals.old.items ++ read)
+        × (literals_in (words_of (drop from text.now)) ≡ option_map (λ hs. (read, hs)) (hints_in (words_of (drop next text.now))))))
+        (λ fault. (fault ≡ NoMemory) ⊎ ((fault ≡ Shape line) × (literals_in (words_of (drop from text.now)) ≡ None))) }
     ensures few { vec_len literals.new ≤ vec_len literals.old + length text.now }
 {
     let mut at = from;
@@ -159,7 +168,9 @@ fn read_literals(
 fn read_hints(text: &[u8], from: usize, line: u32, hints: &mut Vec<u32>) -> Result<(), LogFault>
     requires few { length text.now ≤ MOST_BYTES }
     requires from { from ≤ length text.now }
-    ensures answer { MatchResult result (λ _. (read : List ℕ) × (hints.new.items ≡ hints.old.items ++ read) × (hints_in (words_of (drop from text.now)) ≡ Some read)) (λ fault. (fault ≡ NoMemory) ⊎ ((fault ≡ Shape line) × (hints_in (words_of (drop from text.now)) ≡ None))) }
+    ensures answer { MatchResult result
+        (λ _. (read : List ℕ) × (hints.new.items ≡ hints.old.items ++ read) × (hints_in (words_of (drop from text.now)) ≡ Some read))
+        (λ fault. (fault ≡ NoMemory) ⊎ ((fault ≡ Shape line) × (hints_in (words_of (drop from text.now)) ≡ None))) }
     ensures few { vec_len hints.new ≤ vec_len hints.old + length text.now }
 {
     let mut at = from;

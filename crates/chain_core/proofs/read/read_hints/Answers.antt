@@ -1,4 +1,4 @@
-use Rattle.std.proofs.Common.{◌≡◌, ℕ, ◌++◌, ◌∷◌, [], List, arith, rules, subst, refl, drop, inr, ◌∙◌, ap, sym, append_assoc}
+use Rattle.std.proofs.Common.{◌≡◌, ℕ, ◌++◌, ◌∷◌, [], List, rules, subst, refl, inr, ◌∙◌, ap, append_assoc}
 use Rattle.std.proofs.lemmas.List.{take_rest}
 use Rattle.chain_core.specs.Reading.{number_in}
 use Rattle.chain_core.specs.Front.{StartsWith}
