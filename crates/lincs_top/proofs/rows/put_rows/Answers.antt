@@ -1,7 +1,7 @@
-use Rattle.std.proofs.Common.{◌≡◌, ◌≤◌, ℕ, Bool, true, false, List, ◌++◌, Option, Some, IfSome, Ok, Err, sym, ap, ◌∙◌, subst, append_assoc, arith}
+use Rattle.std.proofs.Common.{◌≡◌, ◌≤◌, ℕ, Bool, true, false, List, [], ◌++◌, Option, Some, IfSome, Ok, Err, refl, sym, ap, ◌∙◌, subst, append_assoc, arith}
 use Rattle.std.specs.List.{flat_map}
 use Rattle.std.specs.Io.KnownBytes.{Appends}
-use Rattle.std.proofs.KnownBytes.{Appends-trans}
+use Rattle.std.proofs.KnownBytes.{Appends-nil, Appends-trans}
 use Rattle.std.proofs.lemmas.Result.{err_from_is_err_and}
 use Rattle.edge_core.specs.Outside.{SinkState, AppendsPart}
 use Rattle.edge_core.proofs.Sends.{part_front, part_on}
@@ -48,6 +48,14 @@ stopped : (rows : RowsRead) (all rest piece more : List ℕ) (old mid new : Sink
 stopped rows all rest piece more old mid new (fault.Row why) s e later p = absurd p
 stopped rows all rest piece more old mid new fault.Write s e later p = (omega (arith, p.0), sent_part old.written mid.written new.written all rest piece more s e p.1)
 stopped rows all rest piece more old mid new fault.NoMemory s e later p = record { front = s.front; rest = rest; parts = s.parts; went = rw p s.went }
+
+pub loop-line-init : goal.loop-line-init
+loop-line-init g c = record {
+  table = c.requires.table;
+  sent = record { front = []; parts = refl; went = Appends-nil (g.O.Sink.state c.args.out.now).written };
+  end = refl;
+  later = omega arith;
+}
 
 pub loop-line-preserved : goal.loop-line-preserved
 loop-line-preserved g c =
