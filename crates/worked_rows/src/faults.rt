@@ -24,7 +24,7 @@ fn each_failing_read_writes_nothing(rt: HostRuntime) -> Result<(), Fail> {
             break;
         }
         assert_eq!(&rt; status, Status::ReadFault);
-        assert_eq!(&rt; out.bytes(), b"");
+        assert_eq!(&rt; out.bytes(), b"".as_slice());
         failures += 1;
     }
     // an open, a read with bytes and a read at the end for each file

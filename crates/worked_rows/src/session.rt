@@ -61,6 +61,6 @@ pub fn ends_with(
     let status = run(alloc, &words(alloc)?, &mut shelf, &mut out, &mut err);
     assert_eq!(rt; status, want.0);
     assert_eq!(rt; out.bytes(), want.1.as_bytes());
-    assert_eq!(rt; err.bytes(), b"");
+    assert_eq!(rt; err.bytes(), b"".as_slice());
     Ok(())
 }
