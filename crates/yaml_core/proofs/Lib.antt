@@ -3,7 +3,10 @@ pub mod LineLemmas
 pub mod ContextLemmas
 pub mod InlineLemmas
 pub mod StackLemmas
+pub mod PlainLemmas
 pub mod LexerLemmas
 pub mod SizeLemmas
 pub mod ReadLemmas
 pub mod EntriesLemmas
+pub mod LinesLemmas
+pub mod QuotesLemmas

@@ -2,11 +2,15 @@
 #![tactic(auto)]
 
 mod blocks;
+mod bytes;
 mod entries;
 mod fault;
 mod inline;
 mod lexer;
+mod lines;
 mod node;
+mod plain;
+mod quoted;
 mod read;
 mod size;
 mod stack;

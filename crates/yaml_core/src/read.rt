@@ -6,7 +6,7 @@ ghost use Rattle.yaml_core.specs.Stack.{Gives};
 
 use crate::blocks::tree_of;
 use crate::fault::YamlFault;
-use crate::lexer::text_tokens;
+use crate::lines::text_tokens;
 use crate::node::Node;
 use crate::size::within_limit;
 use std::alloc::Global;
