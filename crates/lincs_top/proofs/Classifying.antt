@@ -1,8 +1,8 @@
 -- The course of sorting a table, step by step.
-use Rattle.std.proofs.Common.{◌≡◌, ◌≤◌, ◌+◌, ℕ, List, [], ◌∷◌, ◌++◌, take, Option, None, Some, Result, Ok, Err, Contains, inl, inr, refl, sym, ap, ◌∙◌, append_assoc, arith, rules}
-use Rattle.std.specs.Io.KnownBytes.{Appends, Keeps}
+use Rattle.std.proofs.Common.{◌≡◌, ℕ, List, [], ◌∷◌, ◌++◌, None, Some, Ok, Err, inr, refl, sym, ap, ◌∙◌, append_assoc, arith, rules}
+use Rattle.std.specs.Io.KnownBytes.{Appends}
 use denote.Ref.{Bor}
-use Rattle.edge_core.specs.Outside.{Files, ShelfState, SinkState, Rose, AppendsPart}
+use Rattle.edge_core.specs.Outside.{ShelfState, SinkState, Rose, AppendsPart}
 use Rattle.yaml_core.specs.Read.{reading}
 use Rattle.problem_core.specs.Problem.{ProblemValue}
 use Rattle.problem_core.specs.ReadProblem.{problem_of}
@@ -15,10 +15,10 @@ use Rattle.lincs_top.specs.declared.stop.Refusal.TheVariants as refusal
 use Rattle.lincs_top.specs.declared.stop.Stop.{Stop}
 use Rattle.lincs_top.specs.declared.stop.Stop.TheVariants.{Unwritten, Refused, NoMemory}
 use Rattle.lincs_top.specs.Classified.{classified_text, classified_end, end_of_rows}
-use Rattle.lincs_top.specs.Command.{Command, classifying, names_of}
+use Rattle.lincs_top.specs.Command.{classifying}
 use Rattle.lincs_top.specs.Course.{World, Step, refusing, file_at, tree_at, problem_at, model_at, table_at}
-use Rattle.lincs_top.specs.Ending.{End, done, refused, Ending}
-use Rattle.lincs_top.specs.FileStep.{FileStep, Gives, StopsAs, OpensOne}
+use Rattle.lincs_top.specs.Ending.{refused, Ending}
+use Rattle.lincs_top.specs.FileStep.{Gives, StopsAs, OpensOne}
 use Rattle.lincs_top.specs.Obeys.{Obeys}
 use Rattle.lincs_top.specs.Rows.{AppendsPrefix}
 use Rattle.lincs_top.proofs.Reaches.{IsStep, file_step, then_step, Reaches, reach_start, reach_step, step_stopped}

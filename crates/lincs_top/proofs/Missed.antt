@@ -1,5 +1,5 @@
 -- The file that a run could not read.
-use Rattle.std.proofs.Common.{◌≡◌, ℕ, List, Some, Err, Contains, sym, subst}
+use Rattle.std.proofs.Common.{◌≡◌, ℕ, List, Some, Err, Contains, subst}
 use Rattle.edge_core.specs.Outside.{Files, ShelfState, SinkState}
 use Rattle.lincs_top.specs.declared.stop.Status.TheVariants as status
 use Rattle.lincs_top.specs.declared.stop.Stop.{Stop}
@@ -15,9 +15,12 @@ pub misses : (words : List (List ℕ)) (command : Command) (shelf shelf' : Shelf
     → status_of stop ≡ status.ReadFault → MissesAFile words shelf shelf'
 misses words command shelf shelf' out out' (Unread name) is obeyed e = λ other told.
     let same : command ≡ other = cc in
-    let failed = obeyed.answers.0 in
-    (name.now, failed.missed, subst (λ c. Contains (names_of c) name.now) same failed.named,
-     subst (λ c. (files : Files) → shelf.held ≡ Some files → ((place : ℕ) × (ending : Ending) × Ends c (unreadable_at files place) ending × (ending.end ≡ unread name.now))) same failed.reached)
+    let failed = obeyed.answers.0 in (
+      name.now,
+      failed.missed,
+      subst (λ c. Contains (names_of c) name.now) same failed.named,
+      subst (λ c. (files : Files) → shelf.held ≡ Some files → ((place : ℕ) × (ending : Ending) × Ends c (unreadable_at files place) ending × (ending.end ≡ unread name.now))) same failed.reached,
+    )
 misses words command shelf shelf' out out' Unwritten is obeyed e = cc
 misses words command shelf shelf' out out' (Refused name why) is obeyed e = cc
 misses words command shelf shelf' out out' NoMemory is obeyed e = cc

@@ -1,23 +1,16 @@
 -- How far a command came along its course, and what each way to stop makes of it.
-use Rattle.std.proofs.Common.{◌≡◌, ◌==◌, ◌≤◌, ◌+◌, ℕ, Bool, true, false, List, [], ◌∷◌, ◌++◌, take, Option, None, Some, Result, Ok, Err, Contains, inl, inr, refl, sym, ap, ◌∙◌, subst, append_assoc, arith}
+use Rattle.std.proofs.Common.{◌≡◌, ◌==◌, ◌≤◌, ◌+◌, ℕ, true, false, List, Option, None, Some, Result, Ok, Err, Contains, inl, refl, sym, ap, ◌∙◌, subst, arith}
 use Rattle.std.specs.Prelude.{⊤}
-use Rattle.std.specs.Io.KnownBytes.{Appends, Keeps}
 use Rattle.std.proofs.KnownBytes.{Appends-nil, Keeps-refl}
 use Rattle.std.proofs.lemmas.Grind.{common_steps}
-use Rattle.edge_core.specs.Outside.{Files, ShelfState, SinkState, Rose}
-use Rattle.problem_core.specs.Problem.{ProblemValue}
-use Rattle.table_core.specs.Rows.{rows_left}
-use Rattle.table_core.specs.Table.{TableState}
-use Rattle.model_core.specs.declared.model.RootsModel.{RootsModel}
-use Rattle.lincs_top.specs.declared.stop.Refusal.{Refusal}
-use Rattle.lincs_top.specs.declared.stop.Refusal.TheVariants as refusal
+use Rattle.edge_core.specs.Outside.{Files, ShelfState, SinkState}
 use Rattle.lincs_top.specs.declared.stop.Stop.{Stop}
 use Rattle.lincs_top.specs.declared.stop.Stop.TheVariants.{Unread, Unwritten, Refused, NoMemory}
 use Rattle.lincs_top.specs.Command.{Command, names_of}
-use Rattle.lincs_top.specs.Ending.{End, done, unread, refused, Ending, silent}
+use Rattle.lincs_top.specs.Ending.{End, unread, refused, Ending, silent}
 use Rattle.lincs_top.specs.Course.{World, readable, unreadable_at, is_at, file_at, ◌>>=◌, Step, Ends}
-use Rattle.lincs_top.specs.FileStep.{FileStep, Gives, StopsAs}
-use Rattle.lincs_top.specs.Obeys.{Answers, EndsSo}
+use Rattle.lincs_top.specs.FileStep.{FileStep, StopsAs}
+use Rattle.lincs_top.specs.Obeys.{Answers}
 
 abbrev pub World_of : Files → Option ℕ → World
 World_of files u = record { files = files; unreadable = u }

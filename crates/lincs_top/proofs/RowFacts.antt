@@ -102,13 +102,15 @@ module _ (problem : ProblemValue) (old new : TableState) where
 
   next_at : (found : Bool) (current : Option Row) → new.current ≡ current → next_row problem old ≡ Ok current → found ≡ is_some current → new.left ≡ drop 1 old.left → new.number ≡ (if found then old.number + 1 else old.number) → new.header ≡ old.header → new.fault ≡ None → HasNext problem old new (Ok found)
   next_at true (Some row) c e f l n h fine =
-    let it = found_row problem old.header (old.number + 1) old.fault old.left row e in
-    (row, record {
-      current = c;
-      grades = it.grades;
-      rows = left_old it.fine ∙ it.rows ∙ ap (before (Ok row)) (sym (left_new fine h n l));
-      less = rw l it.less;
-    })
+      let it = found_row problem old.header (old.number + 1) old.fault old.left row e in (
+        row,
+        record {
+          current = c;
+          grades = it.grades;
+          rows = left_old it.fine ∙ it.rows ∙ ap (before (Ok row)) (sym (left_new fine h n l));
+          less = rw l it.less;
+        },
+      )
   next_at false None c e f l n h fine = let it = none_found problem old.header (old.number + 1) old.fault old.left e in left_old it.0 ∙ it.1
   next_at true None c e f l n h fine = absurd cc
   next_at false (Some row) c e f l n h fine = absurd cc

@@ -1,7 +1,7 @@
 -- A step of a file that goes on from an earlier one.
-use Rattle.std.proofs.Common.{◌≡◌, ◌⊎◌, inl, inr, ℕ, List, Option, None, Some, Result, Ok, Err, refl, sym, ap, ◌∙◌}
+use Rattle.std.proofs.Common.{◌≡◌, ◌⊎◌, inl, inr, ℕ, List, Option, None, Some, Result, Ok, Err, refl, ap, ◌∙◌}
 use denote.Ref.{Bor}
-use Rattle.edge_core.specs.Outside.{Files, ShelfState}
+use Rattle.edge_core.specs.Outside.{ShelfState}
 use Rattle.lincs_top.specs.declared.stop.Refusal.{Refusal}
 use Rattle.lincs_top.specs.declared.stop.Refusal.TheVariants.{TooLong}
 use Rattle.lincs_top.specs.declared.stop.Stop.{Stop}
@@ -18,7 +18,7 @@ use Rattle.table_core.specs.declared.fault.TableFault.TheVariants as table
 use Rattle.lincs_top.specs.Refusal.{yaml_refusal, problem_refusal, model_refusal, table_refusal}
 use Rattle.lincs_top.specs.Stop.{stop_of}
 use Rattle.lincs_top.specs.Ending.{End, refused}
-use Rattle.lincs_top.specs.Course.{World, readable, ◌>>=◌, refusing}
+use Rattle.lincs_top.specs.Course.{◌>>=◌, refusing}
 use Rattle.lincs_top.specs.FileStep.{FileStep, Gives, StopsAs}
 
 -- the file is refused for this, which is not its length; nothing is said where memory was refused

@@ -1,5 +1,5 @@
 -- How a command goes over files: its course.
-use Rattle.std.specs.Prelude.{◌≡◌, nat_lt, ℕ, Bool, false, true, List, Option, None, Some, Result, Ok, Err, length, ◌==◌, if◌then◌else◌}
+use Rattle.std.specs.Prelude.{◌≡◌, nat_lt, ℕ, Bool, false, List, Option, None, Some, Result, Ok, Err, length, ◌==◌, if◌then◌else◌}
 use Rattle.edge_core.specs.Outside.{Files, bytes_of}
 use Rattle.edge_core.specs.declared.whole_file.TheConstants.{MOST_BYTES}
 use Rattle.yaml_core.specs.Read.{reading}

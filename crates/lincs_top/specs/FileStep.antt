@@ -4,7 +4,6 @@ use Rattle.std.specs.declared.alloc.Global.{Global}
 use Rattle.std.specs.Option.{ForSome}
 use Rattle.edge_core.specs.Outside.{ShelfState, KeepsHeld, Rose}
 use Rattle.edge_core.specs.declared.whole_file.TheConstants.{MOST_BYTES}
-use Rattle.lincs_top.specs.declared.stop.Refusal.{Refusal}
 use Rattle.lincs_top.specs.declared.stop.Refusal.TheVariants.{TooLong}
 use Rattle.lincs_top.specs.declared.stop.Stop.{Stop}
 use Rattle.lincs_top.specs.declared.stop.Stop.TheVariants.{Unread, Unwritten, Refused, NoMemory}

@@ -1,5 +1,5 @@
 -- What a command's function does, measured by the command's course.
-use Rattle.std.specs.Prelude.{◌≡◌, ◌⊎◌, ◌<◌, ◌++◌, ℕ, List, Some, take, Result, Ok, Err, Contains, ⊤}
+use Rattle.std.specs.Prelude.{◌≡◌, ◌⊎◌, ◌<◌, ◌++◌, ℕ, List, Some, take, Result, Ok, Err, Contains}
 use Rattle.std.specs.Io.KnownBytes.{Appends, Keeps}
 use Rattle.edge_core.specs.Outside.{Files, ShelfState, SinkState, Rose, AppendsPart}
 use Rattle.lincs_top.specs.Rows.{AppendsPrefix}

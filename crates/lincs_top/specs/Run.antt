@@ -2,7 +2,7 @@
 use Rattle.std.specs.Prelude.{◌≡◌, ◌++◌, ℕ, List, [], Some, None, take, IsTrue, All, Contains, Option}
 use Rattle.std.specs.Option.{ForSome}
 use Rattle.std.specs.Io.KnownBytes.{Appends}
-use Rattle.edge_core.specs.Outside.{Files, ShelfState, SinkState, Rose, AppendsPart}
+use Rattle.edge_core.specs.Outside.{Files, ShelfState, SinkState, AppendsPart}
 use Rattle.lincs_top.specs.declared.stop.Status.{Status}
 use Rattle.lincs_top.specs.declared.stop.Status.TheVariants as status
 use Rattle.lincs_top.specs.Command.{Command, command_in, names_of}

@@ -3,9 +3,7 @@
 
 mod classify;
 mod file_steps;
-
 mod program;
-
 mod rows;
 mod stop;
 mod words;

@@ -7,8 +7,8 @@ ghost use Rattle.model_core.specs.Model.{Belongs};
 ghost use Rattle.lincs_top.specs.Classified.{classified_record, classified_text};
 ghost use Rattle.lincs_top.specs.Rows.{HasGrades, HasNext, PutsRecord, PutsRows};
 
-use model_core::{RootsModel, sort};
 use edge_core::{Sink, put_all};
+use model_core::{RootsModel, sort};
 use problem_core::Problem;
 use std::alloc::Global;
 use table_core::{RowFault, Table, put_header};

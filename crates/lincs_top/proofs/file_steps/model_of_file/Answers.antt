@@ -1,6 +1,6 @@
-use Rattle.std.proofs.Common.{◌≡◌, ◌∙◌, sym, ap, rules, Ok}
+use Rattle.std.proofs.Common.{ap, Ok}
 use Rattle.model_core.specs.ReadModel.{model_of}
-use Rattle.lincs_top.specs.Course.{refusing, file_at, tree_at}
+use Rattle.lincs_top.specs.Course.{refusing, tree_at}
 use Rattle.lincs_top.specs.declared.stop.Refusal.TheVariants as refusal
 use Rattle.lincs_top.proofs.Steps.{stops_then, gives_then, stops_refusing, model_refuses}
 use Rattle.lincs_top.proofs.file_steps.model_of_file.Goals as goal

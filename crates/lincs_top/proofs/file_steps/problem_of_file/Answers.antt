@@ -1,6 +1,6 @@
-use Rattle.std.proofs.Common.{◌≡◌, ◌∙◌, sym, ap, rules, Ok}
+use Rattle.std.proofs.Common.{ap, Ok}
 use Rattle.problem_core.specs.ReadProblem.{problem_of}
-use Rattle.lincs_top.specs.Course.{refusing, file_at, tree_at}
+use Rattle.lincs_top.specs.Course.{refusing, tree_at}
 use Rattle.lincs_top.specs.declared.stop.Refusal.TheVariants as refusal
 use Rattle.lincs_top.proofs.Steps.{stops_then, gives_then, stops_refusing, problem_refuses}
 use Rattle.lincs_top.proofs.file_steps.problem_of_file.Goals as goal

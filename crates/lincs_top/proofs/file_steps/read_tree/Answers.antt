@@ -1,6 +1,6 @@
-use Rattle.std.proofs.Common.{◌≡◌, ◌∙◌, sym, ap, rules, Ok}
+use Rattle.std.proofs.Common.{◌∙◌, sym, ap, Ok}
 use Rattle.yaml_core.specs.Read.{reading}
-use Rattle.lincs_top.specs.Course.{refusing, file_at, tree_at}
+use Rattle.lincs_top.specs.Course.{refusing, file_at}
 use Rattle.lincs_top.specs.declared.stop.Refusal.TheVariants as refusal
 use Rattle.lincs_top.proofs.Steps.{stops_then, gives_then, stops_refusing, yaml_refuses}
 use Rattle.lincs_top.proofs.file_steps.read_tree.Goals as goal

@@ -7,4 +7,4 @@ pub returns-in-Err-clause-read_missed : goal.returns-in-Err-clause-read_missed
 returns-in-Err-clause-read_missed g c =
     let is : command_in (texts c.args.words.now) ≡ Some (command_of c.in-Some.job) = search rules in
     λ e. misses (texts c.args.words.now) (command_of c.in-Some.job) (g.S.Shelf.state c.args.shelf.now) (g.S.Shelf.state c.obey.new.shelf) (g.O.Sink.state c.args.out.now) (g.O.Sink.state c.obey.new.out)
-        c.in-Err.stop is c.in-Err.ensures (sym c.status.ensures ∙ e)
+    c.in-Err.stop is c.in-Err.ensures (sym c.status.ensures ∙ e)
