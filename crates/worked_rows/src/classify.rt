@@ -6,13 +6,23 @@ use std::test::Fail;
 #[test]
 fn a_tie_at_the_threshold_is_accepted(rt: HostRuntime) -> Result<(), Fail> {
     let want = "name,Speed,category\na,3,Bad\nb,7,Good\n";
-    ends_with(&rt, rt.alloc(), (PROBLEM, MODEL, "name,Speed\na,3\nb,7\n"), (Status::Done, want))
+    ends_with(
+        &rt,
+        rt.alloc(),
+        (PROBLEM, MODEL, "name,Speed\na,3\nb,7\n"),
+        (Status::Done, want),
+    )
 }
 
 #[test]
 fn a_header_alone_is_a_table_and_an_empty_file_is_not(rt: HostRuntime) -> Result<(), Fail> {
     let want = "name,Speed,category\n";
-    ends_with(&rt, rt.alloc(), (PROBLEM, MODEL, "name,Speed\n"), (Status::Done, want))?;
+    ends_with(
+        &rt,
+        rt.alloc(),
+        (PROBLEM, MODEL, "name,Speed\n"),
+        (Status::Done, want),
+    )?;
     ends_with(&rt, rt.alloc(), (PROBLEM, MODEL, ""), (Status::Refused, ""))
 }
 
@@ -37,12 +47,111 @@ sufficient_coalitions:
     upset_roots: [[]]
 ";
     let table = "name,Speed\na,3\nb,7\n";
-    ends_with(&rt, rt.alloc(), (PROBLEM, none, table), (Status::Done, "name,Speed,category\na,3,Bad\nb,7,Bad\n"))?;
-    ends_with(&rt, rt.alloc(), (PROBLEM, all, table), (Status::Done, "name,Speed,category\na,3,Good\nb,7,Good\n"))
+    ends_with(
+        &rt,
+        rt.alloc(),
+        (PROBLEM, none, table),
+        (Status::Done, "name,Speed,category\na,3,Bad\nb,7,Bad\n"),
+    )?;
+    ends_with(
+        &rt,
+        rt.alloc(),
+        (PROBLEM, all, table),
+        (Status::Done, "name,Speed,category\na,3,Good\nb,7,Good\n"),
+    )
 }
 
 #[test]
 fn rows_before_a_refused_one_go_out(rt: HostRuntime) -> Result<(), Fail> {
     let want = "name,Speed,category\na,3,Bad\n";
-    ends_with(&rt, rt.alloc(), (PROBLEM, MODEL, "name,Speed\na,3\nb,11\n"), (Status::Refused, want))
+    ends_with(
+        &rt,
+        rt.alloc(),
+        (PROBLEM, MODEL, "name,Speed\na,3\nb,11\n"),
+        (Status::Refused, want),
+    )
+}
+
+#[test]
+fn cells_are_copied_and_columns_stand_in_the_order_of_the_problem(
+    rt: HostRuntime,
+) -> Result<(), Fail> {
+    let table = "# made by hand\ncategory,Speed,name\r\n,7,\"a, b\"\r\n";
+    let want = "name,Speed,category\n\"a, b\",7,Good\n";
+    ends_with(
+        &rt,
+        rt.alloc(),
+        (PROBLEM, MODEL, table),
+        (Status::Done, want),
+    )
+}
+
+#[test]
+fn on_a_falling_scale_a_tie_is_accepted(rt: HostRuntime) -> Result<(), Fail> {
+    let problem = "kind: classification-problem
+format_version: 1
+criteria:
+  - name: Speed
+    value_type: real
+    preference_direction: decreasing
+    min_value: 0
+    max_value: 10
+ordered_categories:
+  - name: Bad
+  - name: Good
+";
+    let model = "kind: ncs-classification-model
+format_version: 1
+accepted_values:
+  - kind: thresholds
+    thresholds: [2.50]
+sufficient_coalitions:
+  - kind: roots
+    upset_roots: [[0]]
+";
+    let table = "name,Speed\na,2.5\nb,2.51\nc,2.50\n";
+    let want = "name,Speed,category\na,2.5,Good\nb,2.51,Bad\nc,2.50,Good\n";
+    ends_with(
+        &rt,
+        rt.alloc(),
+        (problem, model, table),
+        (Status::Done, want),
+    )
+}
+
+#[test]
+fn the_greatest_boundary_decides_though_a_lower_one_is_not_reached(
+    rt: HostRuntime,
+) -> Result<(), Fail> {
+    let problem = "kind: classification-problem
+format_version: 1
+criteria:
+  - name: Speed
+    value_type: integer
+    preference_direction: increasing
+    min_value: 0
+    max_value: 10
+ordered_categories:
+  - name: Low
+  - name: Mid
+  - name: High
+";
+    let model = "kind: ncs-classification-model
+format_version: 1
+accepted_values:
+  - kind: thresholds
+    thresholds: [3, 7]
+sufficient_coalitions:
+  - kind: roots
+    upset_roots: []
+  - kind: roots
+    upset_roots: [[]]
+";
+    let want = "name,Speed,category\na,0,High\n";
+    ends_with(
+        &rt,
+        rt.alloc(),
+        (problem, model, "name,Speed\na,0\n"),
+        (Status::Done, want),
+    )
 }

@@ -5,6 +5,7 @@ use lincs_top::{Status, run};
 use std::test::Fail;
 
 const TABLE: &str = "name,Speed\na,3\nb,7\n";
+
 const SORTED: &str = "name,Speed,category\na,3,Bad\nb,7,Good\n";
 
 // A bound on the number of calls that a run makes.
@@ -18,7 +19,13 @@ fn each_failing_read_writes_nothing(rt: HostRuntime) -> Result<(), Fail> {
         shelf.fail_at(call)?;
         let mut out = MemSink::new(rt.alloc());
         let mut err = MemSink::new(rt.alloc());
-        let status = run(rt.alloc(), &words(rt.alloc())?, &mut shelf, &mut out, &mut err);
+        let status = run(
+            rt.alloc(),
+            &words(rt.alloc())?,
+            &mut shelf,
+            &mut out,
+            &mut err,
+        );
         if status == Status::Done {
             assert_eq!(&rt; out.bytes(), SORTED.as_bytes());
             break;
@@ -40,7 +47,13 @@ fn each_failing_write_leaves_a_prefix(rt: HostRuntime) -> Result<(), Fail> {
         let mut out = MemSink::new(rt.alloc());
         out.fail_at(call)?;
         let mut err = MemSink::new(rt.alloc());
-        let status = run(rt.alloc(), &words(rt.alloc())?, &mut shelf, &mut out, &mut err);
+        let status = run(
+            rt.alloc(),
+            &words(rt.alloc())?,
+            &mut shelf,
+            &mut out,
+            &mut err,
+        );
         if status == Status::Done {
             assert_eq!(&rt; out.bytes(), SORTED.as_bytes());
             break;
@@ -62,7 +75,13 @@ fn a_safe_shelf_holds_the_same_files(rt: HostRuntime) -> Result<(), Fail> {
     shelf.add("A.csv", TABLE.as_bytes())?;
     let mut out = MemSink::new(rt.alloc());
     let mut err = MemSink::new(rt.alloc());
-    let status = run(rt.alloc(), &words(rt.alloc())?, &mut shelf, &mut out, &mut err);
+    let status = run(
+        rt.alloc(),
+        &words(rt.alloc())?,
+        &mut shelf,
+        &mut out,
+        &mut err,
+    );
     assert_eq!(&rt; status, Status::Done);
     assert_eq!(&rt; out.bytes(), SORTED.as_bytes());
     Ok(())

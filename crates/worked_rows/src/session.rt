@@ -40,7 +40,12 @@ pub fn words(alloc: Global) -> Result<Vec<String>, AllocError> {
 }
 
 /// A shelf with the three files.
-pub fn shelf(alloc: Global, problem: &str, model: &str, table: &str) -> Result<MemShelf, AllocError> {
+pub fn shelf(
+    alloc: Global,
+    problem: &str,
+    model: &str,
+    table: &str,
+) -> Result<MemShelf, AllocError> {
     let mut shelf = MemShelf::new(alloc);
     shelf.add("P.yml", problem.as_bytes())?;
     shelf.add("M.yml", model.as_bytes())?;
