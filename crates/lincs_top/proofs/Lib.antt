@@ -2,4 +2,4 @@ pub mod Steps
 pub mod RowFacts
 pub mod Reaches
 pub mod Classifying
-pub mod Missed
+pub mod Stopped

@@ -81,7 +81,7 @@ module _ {A : Type 0} (step : FileStep A) (is_step : IsStep step) (command : Com
         ap unread (sym s.0),
       );
     },
-    Keeps-refl out.written,
+    refl,
   )
   step_stopped shelf mid shelf' out Unwritten is_held reached named same later s = absurd s
   step_stopped shelf mid shelf' out (Refused file why) is_held reached named same later s = record {

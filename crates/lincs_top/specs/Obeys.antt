@@ -42,7 +42,7 @@ pub record WasRefused (command : Command) (shelf shelf' : ShelfState) (out out' 
 -- what a command's function did, by its answer
 abbrev pub Answers : Command → ShelfState → ShelfState → SinkState → SinkState → Result (Unit {0}) Stop → Type 0
 Answers command shelf shelf' out out' (Ok _) = EndsSo command shelf out out' done
-Answers command shelf shelf' out out' (Err (Unread name)) = ReadFailed command shelf shelf' name.now × Keeps out.written out'.written
+Answers command shelf shelf' out out' (Err (Unread name)) = ReadFailed command shelf shelf' name.now × (out' ≡ out)
 Answers command shelf shelf' out out' (Err Unwritten) = WriteFailed command shelf out out'
 Answers command shelf shelf' out out' (Err (Refused name refusal)) = WasRefused command shelf shelf' out out' name.now refusal
 Answers command shelf shelf' out out' (Err NoMemory) = LeavesOnNoMemory command shelf out out'

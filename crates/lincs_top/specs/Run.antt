@@ -14,6 +14,18 @@ use Rattle.lincs_top.specs.Obeys.{LeavesOnNoMemory}
 abbrev pub MayOpen : ShelfState → Command → Type 0
 MayOpen shelf command = All (λ name. IsTrue (shelf.may_open name)) (names_of command)
 
+-- a command that is built can end so
+abbrev pub IsBuilt : Status → Type 0
+IsBuilt status.Done = Unit {0}
+IsBuilt status.Usage = Unit {0}
+IsBuilt status.ReadFault = Unit {0}
+IsBuilt status.WriteFault = Unit {0}
+IsBuilt status.Refused = Unit {0}
+IsBuilt status.NoMemory = Unit {0}
+IsBuilt status.No = ⊥
+IsBuilt status.Limit = ⊥
+IsBuilt status.TooLarge = ⊥
+
 -- the status comes from the end of a course, and from nothing else
 abbrev pub IsCourseStatus : Status → Type 0
 IsCourseStatus status.Done = Unit {0}

@@ -1,11 +1,10 @@
 //! The top call.
 ghost use Rattle.std.specs.Prelude.{◌≡◌, ◌↔◌, ◌⊎◌, None};
 ghost use Rattle.std.specs.Option.{ForSome};
-ghost use Rattle.std.specs.Io.KnownBytes.{Keeps};
 ghost use Rattle.edge_core.specs.Outside.{Rose};
 ghost use Rattle.lincs_top.specs.Command.{texts, command_in, command_of};
 ghost use Rattle.lincs_top.specs.Obeys.{Obeys};
-ghost use Rattle.lincs_top.specs.Run.{MayOpen, IsCourseStatus, CourseEnds, CourseWrites, MissesAFile, MemoryLeaves, OpensInOrder};
+ghost use Rattle.lincs_top.specs.Run.{MayOpen, IsBuilt, IsCourseStatus, CourseEnds, CourseWrites, MissesAFile, MemoryLeaves, OpensInOrder};
 
 use crate::classify::classify;
 use crate::stop::{Status, Stop};
@@ -43,17 +42,18 @@ pub fn run<S: Shelf, O: Sink, E: Sink>(
     requires { ForSome (command_in (texts words.now)) (MayOpen (S.state shelf.old)) }
 
     ensures opens { OpensInOrder (texts words.now) (S.state shelf.old) (S.state shelf.new) }
-    ensures err_silent { Keeps (E.state err.old).written (E.state err.new).written }
+    ensures err_silent { E.state err.new ≡ E.state err.old }
+    ensures built { IsBuilt result }
 
     ensures usage { (result ≡ Status.Usage) ↔ (command_in (texts words.now) ≡ None) }
-    ensures usage_silent { result ≡ Status.Usage → Keeps (O.state out.old).written (O.state out.new).written }
+    ensures usage_silent { result ≡ Status.Usage → O.state out.new ≡ O.state out.old }
 
     // Done and Refused, and the ends of later commands, are ends of a course over the told files.
     ensures course { IsCourseStatus result → CourseEnds (texts words.now) (S.state shelf.old) (O.state out.old) (O.state out.new) result }
 
     // A fault comes only where its count rose.
     ensures read_fault { result ≡ Status.ReadFault → Rose (S.state shelf.old).faults (S.state shelf.new).faults }
-    ensures read_silent { result ≡ Status.ReadFault → Keeps (O.state out.old).written (O.state out.new).written }
+    ensures read_silent { result ≡ Status.ReadFault → O.state out.new ≡ O.state out.old }
     ensures read_missed { result ≡ Status.ReadFault → MissesAFile (texts words.now) (S.state shelf.old) (S.state shelf.new) }
     ensures write_fault { result ≡ Status.WriteFault → Rose (O.state out.old).faults (O.state out.new).faults }
     ensures write_prefix { result ≡ Status.WriteFault → CourseWrites (texts words.now) (S.state shelf.old) (O.state out.old) (O.state out.new) }
