@@ -13,7 +13,7 @@ const CALLS: u64 = 20;
 
 #[test]
 fn each_failing_read_writes_nothing(rt: HostRuntime) -> Result<(), Fail> {
-    let mut failures = 0;
+    let mut without_failure = 0;
     for call in 1..CALLS {
         let mut shelf = shelf(rt.alloc(), PROBLEM, MODEL, TABLE)?;
         shelf.fail_at(call)?;
@@ -28,20 +28,20 @@ fn each_failing_read_writes_nothing(rt: HostRuntime) -> Result<(), Fail> {
         );
         if status == Status::Done {
             assert_eq!(&rt; out.bytes(), SORTED.as_bytes());
+            without_failure = call;
             break;
         }
         assert_eq!(&rt; status, Status::ReadFault);
         assert_eq!(&rt; out.bytes(), b"".as_slice());
-        failures += 1;
     }
-    // an open, a read with bytes and a read at the end for each file
-    assert_eq!(&rt; failures, 9);
+    // Each of three files takes an open, a read with bytes and a read at the end.
+    assert_eq!(&rt; without_failure, 10);
     Ok(())
 }
 
 #[test]
 fn each_failing_write_leaves_a_prefix(rt: HostRuntime) -> Result<(), Fail> {
-    let mut failures = 0;
+    let mut without_failure = 0;
     for call in 1..CALLS {
         let mut shelf = shelf(rt.alloc(), PROBLEM, MODEL, TABLE)?;
         let mut out = MemSink::new(rt.alloc());
@@ -56,14 +56,14 @@ fn each_failing_write_leaves_a_prefix(rt: HostRuntime) -> Result<(), Fail> {
         );
         if status == Status::Done {
             assert_eq!(&rt; out.bytes(), SORTED.as_bytes());
+            without_failure = call;
             break;
         }
         assert_eq!(&rt; status, Status::WriteFault);
         assert!(&rt; SORTED.as_bytes().starts_with(out.bytes()));
-        failures += 1;
     }
-    // the header and two rows
-    assert_eq!(&rt; failures, 3);
+    // The header and two rows are one write each.
+    assert_eq!(&rt; without_failure, 4);
     Ok(())
 }
 
