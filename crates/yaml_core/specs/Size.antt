@@ -1,8 +1,7 @@
--- How many nodes a tree has.
-use Rattle.std.specs.Prelude.{ℕ, ◌+◌, sum}
+-- How many nodes a tree has, and how many levels.
+use Rattle.std.specs.Prelude.{ℕ, ◌+◌, max, sum, List, [], ◌∷◌}
 use Rattle.yaml_core.specs.declared.node.Node.{Node, fold-Node}
 use Rattle.yaml_core.specs.declared.node.Node.TheOpen.{Node-F, Pair-F}
-use Rattle.yaml_core.specs.declared.node.Pair.{Pair, out-Pair}
 
 -- a node from the counts of what stands in it: each node counts, keys don't
 abbrev pub count_layer : Node-F ℕ ℕ → ℕ
@@ -19,6 +18,18 @@ pair_layer p = p.value
 unfoldable pub node_count : Node → ℕ
 node_count n = fold-Node ℕ ℕ count_layer pair_layer n
 
--- how many nodes an entry has
-abbrev pub pair_count : Pair → ℕ
-pair_count p = node_count (out-Pair p).value
+abbrev pub largest : List ℕ → ℕ
+largest [] = 0
+largest (n ∷ ns) = max n (largest ns)
+
+-- a node from the levels of what stands in it
+abbrev pub height_layer : Node-F ℕ ℕ → ℕ
+height_layer (Node-F.Scalar text) = 1
+height_layer (Node-F.Quoted text) = 1
+height_layer (Node-F.List heights) = 1 + largest heights
+height_layer (Node-F.Map heights) = 1 + largest heights
+height_layer Node-F.Null = 1
+
+-- how many levels a tree has
+unfoldable pub node_height : Node → ℕ
+node_height n = fold-Node ℕ ℕ height_layer pair_layer n

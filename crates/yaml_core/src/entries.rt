@@ -1,34 +1,34 @@
-//! The entries of a mapping while it is read, found by key.
-ghost use Rattle.std.specs.Prelude.{◌≡◌, [], IfOk};
-ghost use Rattle.yaml_core.specs.Tree.{add_pair};
-ghost use Rattle.yaml_core.specs.Stack.{Gives};
+//! Values under keys, found by key: the entries of a mapping, and the nodes that have names.
+ghost use Rattle.std.specs.Prelude.{◌≡◌, [], map};
+ghost use Rattle.std.specs.Option.{option_copied};
+ghost use Rattle.yaml_core.specs.Entries.{entry_of};
+ghost use Rattle.yaml_core.specs.Measured.{add_entry, find_entry};
+ghost use Rattle.yaml_core.specs.Stack.{Leaves};
 
 use crate::fault::YamlFault;
-use crate::node::{Node, Pair, Pairs};
 use crate::text::Text;
+use crate::value::Value;
 use indexmap::IndexMap;
-use sqlite_items::Items;
-use std::alloc::{AllocError, Global};
+use std::alloc::Global;
 use std::marker::Model;
 
-/// The entries so far, which contracts see as the list of their pairs.
+/// The values so far, in the order of the text. Contracts see them as the list of their entries.
 #[derive(Drop)]
 pub struct Entries {
-    by_key: IndexMap<String, Node>,
+    by_key: IndexMap<String, Value>,
 }
 
 impl Model for Entries {
     ghost use Rattle.std.specs.Prelude.{List, map};
-    ghost use Rattle.yaml_core.specs.declared.node.Pair.{Pair};
-    ghost use Rattle.yaml_core.specs.contracts.node.Pair as the_pair;
     ghost use Rattle.std.specs.Coded.{coded_list};
-    ghost use Rattle.yaml_core.specs.Entries.{pair_of};
+    ghost use Rattle.yaml_core.specs.Measured.{Entry, entry_code};
+    ghost use Rattle.yaml_core.specs.Entries.{entry_of};
 
-    ghost Value = { List Pair };
+    ghost Value = { List Entry };
 
-    ghost coded = { coded_list the_pair.the_row.coded };
+    ghost coded = { coded_list entry_code };
 
-    ghost view = { λ entries. map pair_of entries.by_key.entries };
+    ghost view = { λ entries. map entry_of entries.by_key.entries };
 }
 
 impl Entries {
@@ -41,25 +41,27 @@ impl Entries {
         }
     }
 
-    /// The entries with one more; `Form` where the key is there already.
-    pub fn with(mut self, key: Text, value: Node) -> Result<Self, YamlFault>
-        ensures { Gives result (add_pair self key value) }
+    /// Adds an entry; `Form` where the key is there already.
+    pub fn add(&mut self, key: Text, value: Value) -> Result<(), YamlFault>
+        ensures { Leaves result self.new (add_entry self.old key value) }
     {
         match self.by_key.insert(key.into_string(), value)? {
-            None => Ok(self),
+            None => Ok(()),
             Some(_) => Err(YamlFault::Form),
         }
     }
 
-    /// The entries as pairs.
-    pub fn into_pairs(self, alloc: Global) -> Result<Pairs, AllocError>
-        ensures { IfOk result (λ pairs. pairs ≡ self) }
+    /// The value under a key.
+    pub fn get(&self, key: &str) -> Option<&Value>
+        ensures { option_copied result ≡ find_entry key.now self.now }
     {
-        let mut pairs = Items::new(alloc);
-        for (key, value) in self.by_key {
-            let key = Text::from_string(key);
-            pairs.push(Pair { key, value })?;
-        }
-        Ok(pairs)
+        self.by_key.get(key)
+    }
+
+    /// The map of the values by their keys.
+    pub(crate) fn into_map(self) -> IndexMap<String, Value>
+        ensures { map entry_of result.entries ≡ self }
+    {
+        self.by_key
     }
 }

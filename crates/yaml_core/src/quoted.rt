@@ -48,7 +48,8 @@ pub fn single_quoted(alloc: Global, rest: &str) -> Result<(Text, usize), YamlFau
     Err(YamlFault::Form)
 }
 
-fn is_mark(b: u8) -> bool
+/// Whether a byte is a double quote or a backslash.
+pub fn is_mark(b: u8) -> bool
     ensures { result ≡ (b == 34 || b == 92) }
 {
     b == b'"' || b == b'\\'

@@ -1,0 +1,52 @@
+-- What is kept of nodes while they are built.
+use Rattle.std.specs.Prelude.{◌≡◌, ℕ, min, List, [], ◌∷◌, ◌++◌, map, sum, Option, Some, None}
+use Rattle.yaml_core.specs.declared.node.Node.{Node}
+use Rattle.yaml_core.specs.Measured.{Measured, highest}
+use Rattle.yaml_core.specs.Size.{node_count, node_height}
+use Rattle.yaml_core.specs.Keys.{HasDistinctKeys}
+
+-- it is the whole, if it is kept
+abbrev pub IsKept : {A : Type 0} → Option A → A → Type 0
+IsKept None whole = Unit {0}
+IsKept (Some a) whole = a ≡ whole
+
+-- what is kept of a list with one more item: all of it, or nothing
+abbrev pub KeepsMore : {A : Type 0} → Option (List A) → Option A → Option (List A) → Type 0
+KeepsMore all more None = Unit {0}
+KeepsMore (Some before) (Some a) (Some after) = after ≡ before ++ a ∷ []
+KeepsMore all more (Some after) = ⊥
+
+-- a number of levels that stands still at 255
+abbrev pub levels_up_to : ℕ → ℕ
+levels_up_to n = min n 255
+
+-- a number of nodes that stands still at the last 32-bit number
+abbrev pub nodes_up_to : ℕ → ℕ
+nodes_up_to n = min n 4294967295
+
+-- how many nodes these have
+abbrev pub count_of : List Measured → ℕ
+count_of ms = sum (map (λ m. node_count m.node) ms)
+
+-- the levels are those of the node, and no mapping in it has a key twice
+pub record IsSound (m : Measured) : Type 0 where
+  pub height : m.height ≡ node_height m.node
+  pub keys : HasDistinctKeys m.node
+
+abbrev pub AreSound : List Measured → Type 0
+AreSound [] = Unit {0}
+AreSound (m ∷ ms) = IsSound m × AreSound ms
+
+-- a value's levels, nodes and node are those of what it stands for
+pub record KeepsNode (held : Option Node) (height count : ℕ) (m : Measured) : Type 0 where
+  pub node : IsKept held m.node
+  pub levels : height ≡ levels_up_to m.height
+  pub nodes : count ≡ nodes_up_to (node_count m.node)
+  pub sound : IsSound m
+
+-- the same of nodes that stand in a list or under keys, where the whole is what is made of them
+pub record KeepsNodes {A : Type 0} (held : Option A) (height count : ℕ) (whole : A) (ms : List Measured) : Type 0 where
+  pub all : IsKept held whole
+  pub levels : height ≡ levels_up_to (highest ms)
+  pub nodes : count ≡ nodes_up_to (count_of ms)
+  pub sound : AreSound ms

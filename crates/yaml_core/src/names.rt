@@ -1,0 +1,143 @@
+//! The nodes that have names, for the aliases that stand for them.
+ghost use Rattle.std.specs.Prelude.{◌≡◌, ◌≤◌, [], IfOk};
+ghost use Rattle.yaml_core.specs.Reading.{naming, named_as, node_named, gives};
+ghost use Rattle.yaml_core.specs.Stack.{GivesWith};
+
+use crate::entries::Entries;
+use crate::fault::YamlFault;
+use crate::size::MOST_NODES;
+use crate::text::Text;
+use crate::token::{Line, Placed, Token};
+use crate::value::Value;
+use indexmap::IndexMap;
+use std::alloc::{AllocError, Global};
+use std::marker::Model;
+
+/// The values whose nodes ended so far, by the names of their anchors. Contracts see the list of their
+/// entries. A node is kept under its name only while the copies for all aliases together have at most
+/// [`MOST_NODES`] nodes. Past that a value stands for its node without it: the text has too many nodes
+/// then, or no tree.
+#[derive(Drop)]
+pub struct Names {
+    named: Entries,
+    uses: IndexMap<String, u32>,
+    left: u32,
+}
+
+impl Model for Names {
+    ghost use Rattle.std.specs.Prelude.{List};
+    ghost use Rattle.std.specs.Coded.{coded_list};
+    ghost use Rattle.yaml_core.specs.Measured.{Entry, entry_code};
+
+    ghost Value = { List Entry };
+
+    ghost coded = { coded_list entry_code };
+
+    ghost view = { λ names. names.named };
+}
+
+/// Counts one more alias with a name.
+fn add_use(alloc: Global, uses: &mut IndexMap<String, u32>, name: &str) -> Result<(), AllocError> {
+    if let Some(count) = uses.get_mut(name) {
+        *count = count.saturating_add(1);
+        return Ok(());
+    }
+    let _none = uses.insert(String::from_str(alloc, name)?, 1)?;
+    Ok(())
+}
+
+/// Counts the aliases in the tokens.
+fn add_uses(
+    alloc: Global,
+    uses: &mut IndexMap<String, u32>,
+    tokens: &[Placed],
+) -> Result<(), AllocError> {
+    for placed in tokens {
+        if let Token::Alias(name) = &placed.token {
+            add_use(alloc, uses, name.as_str())?;
+        }
+    }
+    Ok(())
+}
+
+/// How many aliases in the lines have a name, by the name.
+pub fn uses_of_names(alloc: Global, lines: &[Line]) -> Result<IndexMap<String, u32>, AllocError> {
+    let mut uses = IndexMap::new(alloc);
+    for line in lines {
+        add_uses(alloc, &mut uses, line.as_slice())?;
+    }
+    Ok(uses)
+}
+
+/// What is left of `left` after so many copies of so many nodes, where it is enough.
+fn left_after(left: u32, copies: u32, nodes: u32) -> Option<u32> {
+    left.checked_sub(copies.checked_mul(nodes)?)
+}
+
+impl Names {
+    /// No node has a name; so many aliases will ask for each. Takes no memory.
+    pub fn new(alloc: Global, uses: IndexMap<String, u32>) -> Self
+        ensures { result ≡ [] }
+    {
+        Names {
+            named: Entries::new(alloc),
+            uses,
+            left: MOST_NODES,
+        }
+    }
+
+    /// What is kept under a name: the node only where an alias asks for it and the copies are within the
+    /// limit.
+    fn kept(&mut self, alloc: Global, name: &str, value: &Value) -> Result<Value, AllocError>
+        ensures value { IfOk result (λ kept. kept ≡ value.now) }
+        ensures named { self.new ≡ self.old }
+    {
+        let Some(copies) = self.uses.get(name) else {
+            return Ok(value.without_node());
+        };
+        let Some(left) = left_after(self.left, *copies, value.nodes()) else {
+            return Ok(value.without_node());
+        };
+        self.left = left;
+        value.copy(alloc)
+    }
+
+    /// Gives the value's node a name; `Form` where another node has it.
+    pub fn name(&mut self, alloc: Global, name: Text, value: Value) -> Result<Value, YamlFault>
+        ensures { GivesWith result self.new (naming name value self.old) }
+    {
+        let kept = self.kept(alloc, name.as_str(), &value)?;
+        self.named.add(name, kept)?;
+        Ok(value)
+    }
+
+    /// Gives the value's node the name of its anchor, where it has one.
+    pub fn name_by(
+        &mut self,
+        alloc: Global,
+        anchor: Option<Text>,
+        value: Value,
+    ) -> Result<Value, YamlFault>
+        ensures { GivesWith result self.new (named_as anchor (gives value) self.old) }
+    {
+        match anchor {
+            Some(name) => self.name(alloc, name, value),
+            None => Ok(value),
+        }
+    }
+
+    /// The value that an alias stands for; `Form` where no node has the name, or where it has more
+    /// levels than are left.
+    pub fn get(&self, alloc: Global, levels: usize, name: &str) -> Result<Value, YamlFault>
+        requires { levels ≤ 64 }
+        ensures { GivesWith result self.now (node_named levels name.now self.now) }
+    {
+        let Some(value) = self.named.get(name) else {
+            return Err(YamlFault::Form);
+        };
+        if !value.fits(levels) {
+            return Err(YamlFault::Form);
+        }
+        Ok(value.copy(alloc)?)
+    }
+}

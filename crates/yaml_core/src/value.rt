@@ -1,0 +1,296 @@
+//! Nodes while they are built, with their numbers of levels and of nodes.
+ghost use Rattle.std.specs.Prelude.{◌≡◌, ◌≤◌, ◌++◌, ◌∷◌, [], true, map, option_map, IfOk, OnOk, nat_le, Some};
+ghost use Rattle.yaml_core.specs.Measured.{leaf, list_node, map_node, pair, pair_of, Entry};
+ghost use Rattle.yaml_core.specs.Entries.{entry_of};
+ghost use Rattle.yaml_core.specs.Keys.{are_distinct, HasDistinctKeys};
+ghost use Rattle.yaml_core.specs.Kept.{KeepsMore, KeepsNodes, nodes_up_to};
+ghost use Rattle.yaml_core.specs.Read.{AnswersNode, within_limit};
+ghost use Rattle.yaml_core.specs.Size.{node_count, node_height};
+
+use crate::copy::copy_of;
+use crate::entries::Entries;
+use crate::fault::YamlFault;
+use crate::node::{Node, Nodes, Pair, Pairs};
+use crate::size::MOST_NODES;
+use crate::text::Text;
+use crate::value_note::{Gathered, Origin, ValueNote, ValuesNote};
+use indexmap::IndexMap;
+use sqlite_items::Items;
+use std::alloc::{AllocError, Global};
+use std::marker::Model;
+
+/// A node with its numbers of levels and of nodes, which stand still at their last values. Contracts see
+/// it as the node with its levels, also where the node itself isn't kept because there are too many.
+#[derive(Drop)]
+pub struct Value {
+    node: Option<Node>,
+    levels: u8,
+    nodes: u32,
+    note: ValueNote,
+}
+
+impl Model for Value {
+    ghost use Rattle.yaml_core.specs.Measured.{Measured, measured_code};
+    ghost use Rattle.yaml_core.specs.Kept.{KeepsNode};
+
+    ghost Value = { Measured };
+
+    ghost coded = { measured_code };
+
+    ghost view = { λ v. v.note.measured };
+
+    ghost invariant = { λ v. KeepsNode v.node v.levels v.nodes v.note.measured };
+}
+
+/// Values in order, while a list is read. Contracts see their list.
+#[derive(Drop)]
+pub struct Values {
+    all: Option<Nodes>,
+    levels: u8,
+    nodes: u32,
+    note: ValuesNote,
+}
+
+impl Model for Values {
+    ghost use Rattle.std.specs.Prelude.{List, map};
+    ghost use Rattle.std.specs.Coded.{coded_list};
+    ghost use Rattle.yaml_core.specs.Measured.{Measured, measured_code};
+    ghost use Rattle.yaml_core.specs.Kept.{KeepsNodes};
+
+    ghost Value = { List Measured };
+
+    ghost coded = { coded_list measured_code };
+
+    ghost view = { λ v. v.note.measured };
+
+    ghost invariant = { λ v. KeepsNodes v.all v.levels v.nodes (map (λ m. m.node) v.note.measured) v.note.measured };
+}
+
+/// The pairs of a mapping as far as they are kept, with the levels and the nodes of their values.
+#[derive(Drop)]
+struct Paired {
+    all: Option<Pairs>,
+    levels: u8,
+    nodes: u32,
+}
+
+/// What was kept with one more, where that is kept too and there are at most [`MOST_NODES`] nodes.
+fn kept_with<T: Drop>(
+    all: Option<Items<T>>,
+    more: Option<T>,
+    nodes: u32,
+) -> Result<Option<Items<T>>, AllocError>
+    ensures { IfOk result (λ kept. KeepsMore all more kept) }
+{
+    let Some(mut all) = all else {
+        return Ok(None);
+    };
+    let Some(more) = more else {
+        return Ok(None);
+    };
+    if nodes > MOST_NODES {
+        return Ok(None);
+    }
+    all.push(more)?;
+    Ok(Some(all))
+}
+
+/// The list of these nodes, where they are kept.
+fn list_of(nodes: Option<Nodes>) -> Option<Node>
+    ensures { result ≡ option_map (λ ns. Node.List ns) nodes }
+{
+    match nodes {
+        Some(nodes) => Some(Node::List(nodes)),
+        None => None,
+    }
+}
+
+/// The mapping of these pairs, where they are kept.
+fn map_of(pairs: Option<Pairs>) -> Option<Node>
+    ensures { result ≡ option_map (λ ps. Node.Map ps) pairs }
+{
+    match pairs {
+        Some(pairs) => Some(Node::Map(pairs)),
+        None => None,
+    }
+}
+
+/// The pair of a key and a node, where that is kept.
+fn pair_of(key: Text, node: Option<Node>) -> Option<Pair>
+    ensures { result ≡ option_map (λ n. pair key n) node }
+{
+    match node {
+        Some(value) => Some(Pair { key, value }),
+        None => None,
+    }
+}
+
+/// The pairs of the entries.
+fn pairs_of(alloc: Global, entries: IndexMap<String, Value>) -> Result<Paired, AllocError>
+    ensures kept { IfOk result (λ paired. let es = map entry_of entries.entries in KeepsNodes paired.all paired.levels paired.nodes (map pair_of es) (map (λ (e : Entry). e.1) es)) }
+    ensures distinct { OnOk result (are_distinct (map (λ (e : Entry). e.0) (map entry_of entries.entries)) ≡ true) }
+{
+    let mut all = Some(Items::new(alloc));
+    let mut levels: u8 = 0;
+    let mut nodes: u32 = 0;
+    for (key, value) in entries {
+        let key = Text::from_string(key);
+        levels = levels.max(value.levels);
+        nodes = value.nodes.saturating_add(nodes);
+        all = kept_with(all, pair_of(key, value.node), nodes)?;
+    }
+    Ok(Paired { all, levels, nodes })
+}
+
+impl Value {
+    /// No value.
+    pub fn null() -> Self
+        ensures { result ≡ leaf Node.Null }
+    {
+        Value {
+            node: Some(Node::Null),
+            levels: 1,
+            nodes: 1,
+            note: ValueNote::of(&Origin::Null),
+        }
+    }
+
+    /// A plain scalar.
+    pub fn scalar(text: Text) -> Self
+        ensures { result ≡ leaf (Node.Scalar text) }
+    {
+        let note = ValueNote::of(&Origin::Scalar(&text));
+        Value {
+            node: Some(Node::Scalar(text)),
+            levels: 1,
+            nodes: 1,
+            note,
+        }
+    }
+
+    /// A quoted scalar.
+    pub fn quoted(text: Text) -> Self
+        ensures { result ≡ leaf (Node.Quoted text) }
+    {
+        let note = ValueNote::of(&Origin::Quoted(&text));
+        Value {
+            node: Some(Node::Quoted(text)),
+            levels: 1,
+            nodes: 1,
+            note,
+        }
+    }
+
+    /// A list.
+    pub fn list(values: Values) -> Self
+        ensures { result ≡ list_node values }
+    {
+        let note = ValueNote::of(&Origin::List(&values));
+        Value {
+            node: list_of(values.all),
+            levels: values.levels.saturating_add(1),
+            nodes: values.nodes.saturating_add(1),
+            note,
+        }
+    }
+
+    /// A mapping.
+    pub fn map(alloc: Global, entries: Entries) -> Result<Self, AllocError>
+        ensures { IfOk result (λ value. value ≡ map_node entries) }
+    {
+        let note = ValueNote::of(&Origin::Map(&entries));
+        let paired = pairs_of(alloc, entries.into_map())?;
+        Ok(Value {
+            node: map_of(paired.all),
+            levels: paired.levels.saturating_add(1),
+            nodes: paired.nodes.saturating_add(1),
+            note,
+        })
+    }
+
+    /// How many nodes the node has, up to the last 32-bit number.
+    pub fn nodes(&self) -> u32
+        ensures { result ≡ nodes_up_to (node_count self.now.node) }
+    {
+        self.nodes
+    }
+
+    /// Whether the node has at most so many levels.
+    pub fn fits(&self, levels: usize) -> bool
+        requires { levels ≤ 64 }
+        ensures { result ≡ nat_le self.now.height levels }
+    {
+        self.levels as usize <= levels
+    }
+
+    /// The node, unless it has more than [`MOST_NODES`] nodes. `NoMemory` where the node isn't there
+    /// although it has no more: a node is left out only where the text has too many nodes or no tree.
+    pub fn into_node(self) -> Result<Node, YamlFault>
+        ensures answer { AnswersNode result (within_limit (Some self.node)) }
+        ensures levels { IfOk result (λ node. node_height node ≡ self.height) }
+        ensures keys { IfOk result (λ node. HasDistinctKeys node) }
+    {
+        if self.nodes > MOST_NODES {
+            return Err(YamlFault::Many);
+        }
+        match self.node {
+            Some(node) => Ok(node),
+            None => Err(YamlFault::NoMemory),
+        }
+    }
+
+    /// The same value without its node.
+    pub fn without_node(&self) -> Self
+        ensures { result ≡ self.now }
+    {
+        Value {
+            node: None,
+            levels: self.levels,
+            nodes: self.nodes,
+            note: ValueNote::of(&Origin::Same(self)),
+        }
+    }
+
+    /// The same value again, with a copy of its node where that is kept.
+    pub fn copy(&self, alloc: Global) -> Result<Self, AllocError>
+        ensures { IfOk result (λ value. value ≡ self.now) }
+    {
+        let node = match &self.node {
+            Some(node) => Some(copy_of(alloc, node)?),
+            None => None,
+        };
+        Ok(Value {
+            node,
+            levels: self.levels,
+            nodes: self.nodes,
+            note: ValueNote::of(&Origin::Same(self)),
+        })
+    }
+}
+
+impl Values {
+    /// No value. Takes no memory.
+    pub fn new(alloc: Global) -> Self
+        ensures { result ≡ [] }
+    {
+        Values {
+            all: Some(Items::new(alloc)),
+            levels: 0,
+            nodes: 0,
+            note: ValuesNote::of(&Gathered::Nothing),
+        }
+    }
+
+    /// Puts one more at the end. The nodes are kept while there are at most [`MOST_NODES`].
+    pub fn push(&mut self, value: Value) -> Result<(), AllocError>
+        ensures { OnOk result (self.new ≡ self.old ++ value ∷ []) }
+    {
+        let note = ValuesNote::of(&Gathered::More(self, &value));
+        let nodes = value.nodes.saturating_add(self.nodes);
+        self.all = kept_with(self.all.take(), value.node, nodes)?;
+        self.levels = self.levels.max(value.levels);
+        self.nodes = nodes;
+        self.note = note;
+        Ok(())
+    }
+}
