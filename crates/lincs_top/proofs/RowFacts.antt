@@ -5,22 +5,17 @@ use Rattle.problem_core.specs.Problem.{ProblemValue}
 use Rattle.problem_core.specs.Grade.{text_grade}
 use Rattle.problem_core.specs.declared.criterion.Criterion.{Criterion}
 use Rattle.table_core.specs.Row.{row_of, grades_of, grade_in, cell_of, cells_of, category_of, ◌>>=◌}
-use Rattle.table_core.specs.Rows.{rows_of, rows_left, before, unless_refused}
 use Rattle.table_core.specs.Table.{TableState, next_row, next_of}
 use Rattle.table_core.specs.declared.fault.RowFault.{RowFault}
 use Rattle.table_core.specs.declared.fault.RowFault.TheVariants as fault
 use Rattle.table_core.specs.declared.row.Row.{Row}
+use Rattle.table_core.proofs.RowsFacts.{rows_left-row, rows_left-end}
 use Rattle.lincs_top.specs.Rows.{HasGrades, HasNext}
 
 -- what is made of a value is a value only where there was one
 value_of : {A B : Type 0} (r : Result A RowFault) (f : A → Result B RowFault) (b : B) → r >>= f ≡ Ok b → (a : A) × (r ≡ Ok a) × (f a ≡ Ok b)
 value_of (Ok a) f b e = (a, refl, e)
 value_of (Err fault) f b e = absurd cc
-
--- a refused row is refused for its own fault
-fault_of : {A : Type 0} (r : Result A RowFault) (why : RowFault) → r >>= (λ a. Ok (Some a)) ≡ Err why → r ≡ Err why
-fault_of (Ok a) why e = absurd cc
-fault_of (Err fault) why e = cc
 
 -- what is answered behind a test is a value only where the test held
 ok_if : {A : Type 0} (test : Bool) (r : Result A RowFault) (fault : RowFault) (a : A) → (if test then r else Err fault) ≡ Ok a → r ≡ Ok a
@@ -53,53 +48,21 @@ has_grades problem header number fields row e =
     let same : length (cells_of problem header fields) ≡ length problem.criteria = simp length-map in
     ap (λ r. length r.grades) (sym is) ∙ length-grades_of number 0 problem.criteria (cells_of problem header fields) first.0 same first.1
 
--- what follows a row that was found
-record Found (problem : ProblemValue) (header : List (List ℕ)) (number : ℕ) (fault : Option RowFault) (left : List (List (List ℕ))) (row : Row) : Type 0 where
-  fine : fault ≡ None
+-- what a row that was found says
+record Found (problem : ProblemValue) (row : Row) (left : List (List (List ℕ))) : Type 0 where
   grades : HasGrades problem row
-  rows : rows_of problem header number left ≡ before (Ok row) (rows_of problem header (number + 1) (drop 1 left))
   less : length (drop 1 left) < length left
 
-found_row : (problem : ProblemValue) (header : List (List ℕ)) (number : ℕ) (fault : Option RowFault) (left : List (List (List ℕ))) (row : Row) → next_of problem header number fault left ≡ Ok (Some row) → Found problem header number fault left row
-unfolding rows_of
+found_row : (problem : ProblemValue) (header : List (List ℕ)) (number : ℕ) (fault : Option RowFault) (left : List (List (List ℕ))) (row : Row) → next_of problem header number fault left ≡ Ok (Some row) → Found problem row left
 found_row problem header number (Some why) left row e = absurd cc
 found_row problem header number None [] row e = absurd cc
 found_row problem header number None (fields ∷ left) row e =
     let step = value_of (row_of problem header number fields) (λ r. Ok (Some r)) (Some row) e in
     let is : row_of problem header number fields ≡ Ok row = cc in
-    record {
-      fine = refl;
-      grades = has_grades problem header number fields row is;
-      rows = ap (λ r. before r (rows_of problem header (number + 1) left)) is;
-      less = omega arith;
-    }
-
--- no row is left where none was found
-none_found : (problem : ProblemValue) (header : List (List ℕ)) (number : ℕ) (fault : Option RowFault) (left : List (List (List ℕ))) → next_of problem header number fault left ≡ Ok None → (fault ≡ None) × (rows_of problem header number left ≡ ([], None))
-unfolding rows_of
-none_found problem header number (Some why) left e = absurd cc
-none_found problem header number None [] e = (refl, refl)
-none_found problem header number None (fields ∷ left) e =
-    let step = value_of (row_of problem header number fields) (λ r. Ok (Some r)) None e in
-    absurd cc
-
--- no row is left before a refused one
-refused_rows : (problem : ProblemValue) (header : List (List ℕ)) (number : ℕ) (left : List (List (List ℕ))) (why : RowFault) → next_of problem header number None left ≡ Err why → rows_of problem header number left ≡ ([], Some why)
-unfolding rows_of
-refused_rows problem header number [] why e = absurd cc
-refused_rows problem header number (fields ∷ left) why e =
-    let is : row_of problem header number fields ≡ Err why = fault_of (row_of problem header number fields) why e in
-    ap (λ r. before r (rows_of problem header (number + 1) left)) is
+    record { grades = has_grades problem header number fields row is; less = omega arith }
 
 -- a step from an old table to a new one
 module _ (problem : ProblemValue) (old new : TableState) where
-  -- the rows that both have left, where no fault is kept
-  left_new : new.fault ≡ None → new.header ≡ old.header → new.number ≡ old.number + 1 → new.left ≡ drop 1 old.left → rows_left problem new ≡ rows_of problem old.header (old.number + 1 + 1) (drop 1 old.left)
-  left_new fine h n l = rw (fine, h, n, l) refl
-
-  left_old : old.fault ≡ None → rows_left problem old ≡ rows_of problem old.header (old.number + 1) old.left
-  left_old fine = ap (λ f. unless_refused f (rows_of problem old.header (old.number + 1) old.left)) fine
-
   next_at : (found : Bool) (current : Option Row) → new.current ≡ current → next_row problem old ≡ Ok current → found ≡ is_some current → new.left ≡ drop 1 old.left → new.number ≡ (if found then old.number + 1 else old.number) → new.header ≡ old.header → new.fault ≡ None → HasNext problem old new (Ok found)
   next_at true (Some row) c e f l n h fine =
       let it = found_row problem old.header (old.number + 1) old.fault old.left row e in (
@@ -107,23 +70,14 @@ module _ (problem : ProblemValue) (old new : TableState) where
         record {
           current = c;
           grades = it.grades;
-          rows = left_old it.fine ∙ it.rows ∙ ap (before (Ok row)) (sym (left_new fine h n l));
+          rows = rows_left-row problem old new row e h n l fine;
           less = rw l it.less;
         },
       )
-  next_at false None c e f l n h fine = let it = none_found problem old.header (old.number + 1) old.fault old.left e in left_old it.0 ∙ it.1
+  next_at false None c e f l n h fine = rows_left-end problem old e
   next_at true None c e f l n h fine = absurd cc
   next_at false (Some row) c e f l n h fine = absurd cc
 
   -- the next row is there, or there is none
   pub has_next : (found : Bool) → next_row problem old ≡ Ok new.current → found ≡ is_some new.current → new.left ≡ drop 1 old.left → new.number ≡ (if found then old.number + 1 else old.number) → new.header ≡ old.header → new.fault ≡ None → HasNext problem old new (Ok found)
   has_next found e f l n h fine = next_at found new.current refl e f l n h fine
-
--- the same, also where the fault was kept
-refused_at : (problem : ProblemValue) (header : List (List ℕ)) (number : ℕ) (fault : Option RowFault) (left : List (List (List ℕ))) (why : RowFault) → next_of problem header number fault left ≡ Err why → unless_refused fault (rows_of problem header number left) ≡ ([], Some why)
-refused_at problem header number None left why e = refused_rows problem header number left why e
-refused_at problem header number (Some kept) left why e = let is : kept ≡ why = cc in ap (λ f. ([], Some f)) is
-
--- the next row is refused
-pub next_refused : (problem : ProblemValue) (old : TableState) (why : RowFault) → next_row problem old ≡ Err why → rows_left problem old ≡ ([], Some why)
-next_refused problem old why e = refused_at problem old.header (old.number + 1) old.fault old.left why e

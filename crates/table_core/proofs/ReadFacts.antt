@@ -1,5 +1,5 @@
 -- What a read of a record keeps, and why it fails.
-use Rattle.std.proofs.Common.{◌≡◌, ℕ, ◌≤◌, length, arith, List, [], Option, None, Some, Result, Ok, Err, MatchResult, is_err, true, false, refl, sym, ap, ◌∙◌, inl, true≢false}
+use Rattle.std.proofs.Common.{◌≡◌, ℕ, ◌+◌, ◌≤◌, length, arith, List, [], Option, None, Some, Result, Ok, Err, MatchResult, is_err, true, false, refl, sym, ap, ◌∙◌, inl, true≢false}
 use Rattle.std.specs.Prelude.{IsUtf8}
 use Rattle.csv.specs.Machine.{Read, next_record}
 use Rattle.csv.specs.Reading.{default_config, source_of, pending_of, ReadRecord, ReadsNext, NextIs, ExplainsRead, took_first}
@@ -9,6 +9,7 @@ use Rattle.csv.specs.declared.reader.Reader.{Reader}
 use Rattle.csv.specs.declared.error.ErrorKind.{ErrorKind}
 use Rattle.csv.specs.declared.error.ErrorKind.TheVariants as kind
 use Rattle.table_core.specs.Records.{Source, bytes_left, ReadsRecords}
+use Rattle.table_core.specs.declared.records.TheConstants.{MOST_BYTES}
 use Rattle.table_core.proofs.RecordFacts.{known_value, record-fields, record-less}
 use Rattle.table_core.proofs.TextFacts.{record-text}
 
@@ -34,10 +35,10 @@ module _ (a b : Reader Source) (fields : List (List ℕ)) (reads : ReadsRecords 
       (y, source, p, next, is, state, after)
 
   -- a record has few fields
-  pub few-fields : ReadRecord bytes_left a b true fields → length fields ≤ 67108865
+  pub few-fields : ReadRecord bytes_left a b true fields → length fields ≤ MOST_BYTES + 1
   few-fields r =
       let (y, source, p, next, is, state, after) = took r.0 in
-      let few : length y ≤ 67108864 = rw source at reads.few in
+      let few : length y ≤ MOST_BYTES = rw source at reads.few in
       let count = record-fields default_config a.state [] [] y p next in
       rw is (omega arith)
 
@@ -55,7 +56,7 @@ module _ (a b : Reader Source) (fields : List (List ℕ)) (reads : ReadsRecords 
   unfolding AllText
   stands y p source next state left config plain flexible first =
       let text : IsUtf8 y = rw source at reads.text in
-      let few : length y ≤ 67108864 = rw source at reads.few in
+      let few : length y ≤ MOST_BYTES = rw source at reads.few in
       let t = record-text a.state reads.outside [] [] y p tt text next in
       let less = record-less default_config a.state [] [] y p next in
       record {

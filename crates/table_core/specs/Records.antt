@@ -9,6 +9,7 @@ use Rattle.csv.specs.declared.parser.State.TheVariants as st
 use Rattle.csv.specs.declared.reader.Reader.{Reader}
 use Rattle.csv.specs.declared.reader.Trim.TheVariants as trim
 use Rattle.table_core.specs.Leading.{begins_marked, table_body}
+use Rattle.table_core.specs.declared.records.TheConstants.{MOST_BYTES}
 
 -- every record of a file, the header with them; after a second byte order mark there is none
 abbrev pub table_records : List ℕ → List (List (List ℕ))
@@ -50,5 +51,5 @@ pub record ReadsRecords (r : Reader Source) : Type 0 where
   pub ready : Ready r
   pub known : IsSome (source_of bytes_left r)
   pub text : IfSome (source_of bytes_left r) IsUtf8
-  pub few : IfSome (source_of bytes_left r) (λ ys. length ys ≤ 67108864)
+  pub few : IfSome (source_of bytes_left r) (λ ys. length ys ≤ MOST_BYTES)
   pub outside : IsPlain (reader_state r)

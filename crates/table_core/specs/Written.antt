@@ -22,6 +22,10 @@ quoted field = quote_mark ∷ (flat_map doubled field ++ quote_mark ∷ [])
 abbrev pub field_text : List ℕ → List ℕ
 field_text field = if list_any is_special field then quoted field else field
 
+-- a field after the first of a record, with the comma before it
+abbrev pub next_text : List ℕ → List ℕ
+next_text field = comma ∷ field_text field
+
 -- fields with commas between them, ended by LF
 abbrev pub record_text : List (List ℕ) → List ℕ
 record_text fields = join_with_byte comma (map field_text fields) ++ line_feed ∷ []

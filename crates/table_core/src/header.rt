@@ -1,5 +1,5 @@
 //! The header of a table: which one a problem accepts, and where its columns stand.
-ghost use Rattle.std.specs.Prelude.{◌≡◌, ◌+◌, ◌≤◌, ◌<◌, [], ◌∷◌, not, length, position, slice_index_or, IfOk, IfSome};
+ghost use Rattle.std.specs.Prelude.{◌≡◌, ◌+◌, ◌^◌, ◌≤◌, ◌<◌, [], ◌∷◌, not, length, position, slice_index_or, IfOk, IfSome};
 ghost use Rattle.std.specs.List.{find, range_with_len};
 ghost use Rattle.std.specs.Str.{bytes_eq};
 ghost use Rattle.csv.specs.Records.{fields_of};
@@ -20,10 +20,10 @@ pub const NAME: &str = "name";
 pub const CATEGORY: &str = "category";
 
 /// The field of a record in a column, or the empty text past the last one.
-pub fn field(record: &StringRecord, column: usize) -> &str
-    ensures { result.now ≡ slice_index_or (fields_of record.now) column [] }
+pub fn field(fields: &StringRecord, column: usize) -> &str
+    ensures { result.now ≡ slice_index_or (fields_of fields.now) column [] }
 {
-    match record.get(column) {
+    match fields.get(column) {
         Some(text) => text,
         None => "",
     }
@@ -146,7 +146,7 @@ fn repeated_column(header: &StringRecord) -> Option<usize>
 
 /// Why the problem refuses a header, if it does.
 pub fn header_fault(problem: &Problem, header: &StringRecord) -> Option<TableFault>
-    requires { length (fields_of header.now) < 4294967296 }
+    requires { length (fields_of header.now) < 2 ^ 32 }
     ensures { result ≡ header_fault problem.now (fields_of header.now) }
 {
     if let Some(i) = missing_column(problem, header) {

@@ -12,7 +12,7 @@ mod table;
 mod tests;
 
 pub use fault::{RowFault, TableFault};
-pub use put::{put_header, put_row};
+pub use put::{put_header, put_row, record_is_that_of_csv};
 pub use records::MOST_BYTES;
 pub use row::{Row, RowGrades, Texts};
 pub use table::Table;

@@ -32,18 +32,18 @@ pub struct Row {
 fn read_grades(
     problem: &Problem,
     columns: &[usize],
-    record: &StringRecord,
+    fields: &StringRecord,
     row: u32,
     grades: &mut Vec<Grade>,
 ) -> Result<(), RowFault>
     requires { length columns.now ≡ length problem.now.criteria }
-    ensures answer { let cells = cells_at columns.now (fields_of record.now) in
+    ensures answer { let cells = cells_at columns.now (fields_of fields.now) in
         AnswersAs RowFault.NoMemory result (grades_of row 0 problem.now.criteria cells) (λ _. grades.new.items) }
     ensures few { length grades.new.items ≤ MOST_CRITERIA }
 {
     grades.clear();
     for i in 0..problem.criteria_count() {
-        let cell = field(record, columns[i as usize]);
+        let cell = field(fields, columns[i as usize]);
         match grade_of(problem.criterion(i), cell) {
             Ok(grade) => grades.push(grade)?,
             Err(why) => return Err(RowFault::Grade(row, i, why)),
@@ -56,15 +56,15 @@ fn read_grades(
 fn read_category(
     problem: &Problem,
     column: Option<usize>,
-    record: &StringRecord,
+    fields: &StringRecord,
     row: u32,
 ) -> Result<Option<u32>, RowFault>
-    ensures { result ≡ field_category row problem.now.categories (fields_of record.now) column }
+    ensures { result ≡ field_category row problem.now.categories (fields_of fields.now) column }
 {
     let Some(column) = column else {
         return Ok(None);
     };
-    let cell = field(record, column);
+    let cell = field(fields, column);
     if cell.is_empty() {
         return Ok(None);
     }
@@ -80,19 +80,18 @@ pub fn read_row(
     problem: &Problem,
     header: &StringRecord,
     columns: &Columns,
-    record: &StringRecord,
+    fields: &StringRecord,
     row: u32,
     grades: &mut Vec<Grade>,
 ) -> Result<Option<u32>, RowFault>
     requires { AreColumns problem.now (fields_of header.now) columns.now }
-    ensures answer { let fields = fields_of record.now in
-        AnswersAs RowFault.NoMemory result (row_of problem.now (fields_of header.now) row fields)
-        (λ category. row_at columns.now fields grades.new.items category) }
+    ensures answer { AnswersAs RowFault.NoMemory result (row_of problem.now (fields_of header.now) row (fields_of fields.now))
+        (λ category. row_at columns.now (fields_of fields.now) grades.new.items category) }
     ensures few { length grades.old.items ≤ MOST_CRITERIA → length grades.new.items ≤ MOST_CRITERIA }
 {
-    if record.len() != header.len() {
+    if fields.len() != header.len() {
         return Err(RowFault::Length(row));
     }
-    read_grades(problem, &columns.criteria, record, row, grades)?;
-    read_category(problem, columns.category, record, row)
+    read_grades(problem, &columns.criteria, fields, row, grades)?;
+    read_category(problem, columns.category, fields, row)
 }

@@ -1,12 +1,12 @@
 //! Tables: a header, and rows that are read one after another.
-ghost use Rattle.std.specs.Prelude.{◌≡◌, ℕ, ◌+◌, ◌≤◌, ◌<◌, [], ◌++◌, ◌∷◌, length, drop, Some, None, Ok, Err, slice_get, slice_index_or, is_some, IsSome, IfSome, IfOk, IfErr, OnOk, OnErr, if◌then◌else◌};
+ghost use Rattle.std.specs.Prelude.{◌≡◌, ◌+◌, ◌≤◌, ◌<◌, [], ◌++◌, ◌∷◌, length, drop, Some, None, Ok, Err, slice_get, slice_index_or, is_some, IsSome, IfSome, IfOk, IfErr, OnOk, OnErr, if◌then◌else◌};
 ghost use Rattle.std.specs.List.{flat_map};
 ghost use Rattle.csv.specs.Records.{fields_of};
-ghost use Rattle.csv.specs.Writing.{comma};
 ghost use Rattle.lists_core.specs.Puts.{Puts};
+ghost use Rattle.lists_core.specs.declared.list_of.TheConstants.{MOST_ITEMS};
 ghost use Rattle.table_core.specs.Answers.{AnswersAs};
 ghost use Rattle.table_core.specs.Table.{cells_at, next_row, opening, IsTableOf};
-ghost use Rattle.table_core.specs.Written.{field_text, record_text, row_fields};
+ghost use Rattle.table_core.specs.Written.{next_text, record_text, row_fields};
 
 use crate::fault::{RowFault, TableFault};
 use crate::header::{Columns, field, header_fault};
@@ -19,18 +19,17 @@ use std::alloc::{AllocError, Global};
 use std::marker::Model;
 use std::str;
 
-/// A table. It keeps the row that was read last as its current row, in memory that the next row takes over, so that
-/// reading allocates nothing for a row or a cell.
+/// A table. It keeps the row that was read last as its current row, in memory that the next row takes over.
 #[derive(Drop)]
 pub struct Table {
     records: Records,
     header: StringRecord,
     columns: Columns,
-    /// The record of the row that was read last.
-    record: StringRecord,
+    /// Those of the record that was read last.
+    fields: StringRecord,
     grades: Vec<Grade>,
     category: Option<u32>,
-    /// Whether the record, the grades and the category are those of a row.
+    /// Whether the fields, the grades and the category are those of a row.
     has_row: bool,
     /// How many records were read as rows.
     rows: u32,
@@ -43,7 +42,7 @@ impl Model for Table {
 
     ghost Value = { TableState };
 
-    ghost view = { λ t. record { header = fields_of t.header; columns = t.columns.criteria.items; left = t.records; number = t.rows; current = row_if t.has_row (row_at t.columns (fields_of t.record) t.grades.items t.category); fault = t.fault } };
+    ghost view = { λ t. record { header = fields_of t.header; columns = t.columns.criteria.items; left = t.records; number = t.rows; current = row_if t.has_row (row_at t.columns (fields_of t.fields) t.grades.items t.category); fault = t.fault } };
 
     ghost invariant = { λ t. KeepsCount (fields_of t.header) t.columns t.grades.items t.rows t.records };
 }
@@ -51,14 +50,13 @@ impl Model for Table {
 /// Appends the fields in some columns of a record, a comma before each.
 fn put_columns(
     columns: &[usize],
-    record: &StringRecord,
+    fields: &StringRecord,
     out: &mut Vec<u8>,
 ) -> Result<(), AllocError>
-    ensures { let piece = λ (column : ℕ). comma ∷ field_text (slice_index_or (fields_of record.now) column []) in
-        Puts out.old.items out.new.items result (flat_map piece columns.now) }
+    ensures { Puts out.old.items out.new.items result (flat_map next_text (cells_at columns.now (fields_of fields.now))) }
 {
     for column in columns {
-        put_next(field(record, *column).as_bytes(), out)?;
+        put_next(field(fields, *column).as_bytes(), out)?;
     }
     Ok(())
 }
@@ -66,35 +64,34 @@ fn put_columns(
 /// Appends a record of the fields in the columns of a row, with a category.
 fn put_fields(
     columns: &Columns,
-    record: &StringRecord,
+    fields: &StringRecord,
     category: &str,
     out: &mut Vec<u8>,
 ) -> Result<(), AllocError>
-    ensures { let fields = fields_of record.now in
-        let name = slice_index_or fields columns.now.name [] in
-        let cells = cells_at columns.now.criteria.items fields in
+    ensures { let name = slice_index_or (fields_of fields.now) columns.now.name [] in
+        let cells = cells_at columns.now.criteria.items (fields_of fields.now) in
         Puts out.old.items out.new.items result (record_text (name ∷ (cells ++ category.now ∷ []))) }
 {
-    put_field(field(record, columns.name).as_bytes(), out)?;
-    put_columns(&columns.criteria, record, out)?;
+    put_field(field(fields, columns.name).as_bytes(), out)?;
+    put_columns(&columns.criteria, fields, out)?;
     put_last(category.as_bytes(), out)
 }
 
 /// The fields in some columns of a record.
-fn copy_cells(alloc: Global, columns: &[usize], record: &StringRecord) -> Result<Texts, AllocError>
-    requires { length columns.now ≤ 4000000000 }
-    ensures { IfOk result (λ cells. cells ≡ cells_at columns.now (fields_of record.now)) }
+fn copy_cells(alloc: Global, columns: &[usize], fields: &StringRecord) -> Result<Texts, AllocError>
+    requires { length columns.now ≤ MOST_ITEMS }
+    ensures { IfOk result (λ cells. cells ≡ cells_at columns.now (fields_of fields.now)) }
 {
     let mut cells = Texts::new(alloc);
     for column in columns {
-        cells.push(Text::of(alloc, field(record, *column))?)?;
+        cells.push(Text::of(alloc, field(fields, *column))?)?;
     }
     Ok(cells)
 }
 
 /// A copy of grades.
 fn copy_grades(alloc: Global, grades: &[Grade]) -> Result<RowGrades, AllocError>
-    requires { length grades.now ≤ 4000000000 }
+    requires { length grades.now ≤ MOST_ITEMS }
     ensures { IfOk result (λ copy. copy ≡ grades.now) }
 {
     let mut copy = Vec::new(alloc);
@@ -129,7 +126,7 @@ impl Table {
             records,
             header,
             columns,
-            record: StringRecord::new(alloc),
+            fields: StringRecord::new(alloc),
             grades: Vec::new(alloc),
             category: None,
             has_row: false,
@@ -161,7 +158,7 @@ impl Table {
             return Err(fault);
         }
         self.has_row = false;
-        match self.records.read(&mut self.record) {
+        match self.records.read(&mut self.fields) {
             Ok(true) => {}
             Ok(false) => return Ok(false),
             Err(_) => {
@@ -174,7 +171,7 @@ impl Table {
             problem,
             &self.header,
             &self.columns,
-            &self.record,
+            &self.fields,
             self.rows,
             &mut self.grades,
         ) {
@@ -197,8 +194,8 @@ impl Table {
     {
         let alloc = *self.grades.allocator();
         Ok(Row {
-            name: Text::of(alloc, field(&self.record, self.columns.name))?,
-            cells: copy_cells(alloc, &self.columns.criteria, &self.record)?,
+            name: Text::of(alloc, field(&self.fields, self.columns.name))?,
+            cells: copy_cells(alloc, &self.columns.criteria, &self.fields)?,
             grades: copy_grades(alloc, &self.grades)?,
             category: self.category,
         })
@@ -239,7 +236,7 @@ impl Table {
         requires { IsSome self.now.current }
         ensures { IfSome self.now.current (λ row. result.now ≡ row.name) }
     {
-        field(&self.record, self.columns.name)
+        field(&self.fields, self.columns.name)
     }
 
     /// The cell of the current row on the criterion at place `i`, as read.
@@ -248,7 +245,7 @@ impl Table {
         requires place { i < length self.now.columns }
         ensures { IfSome self.now.current (λ row. slice_get row.cells i ≡ Some result.now) }
     {
-        field(&self.record, self.columns.criteria[i as usize])
+        field(&self.fields, self.columns.criteria[i as usize])
     }
 
     /// The grades of the current row, in the problem's order of criteria.
@@ -267,11 +264,11 @@ impl Table {
         self.category
     }
 
-    /// Appends the record of the current row with a category, as [`crate::put_row`] does.
+    /// Appends the record of the current row with a category. Want of memory leaves a prefix of it.
     pub fn put_current(&self, category: &str, out: &mut Vec<u8>) -> Result<(), AllocError>
         requires { IsSome self.now.current }
         ensures { IfSome self.now.current (λ row. Puts out.old.items out.new.items result (record_text (row_fields row category.now))) }
     {
-        put_fields(&self.columns, &self.record, category, out)
+        put_fields(&self.columns, &self.fields, category, out)
     }
 }

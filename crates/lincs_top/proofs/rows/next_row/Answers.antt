@@ -1,5 +1,6 @@
 use Rattle.std.proofs.Common.{◌⊎◌, inl, inr}
-use Rattle.lincs_top.proofs.RowFacts.{has_next, next_refused}
+use Rattle.table_core.proofs.RowsFacts.{rows_left-fault}
+use Rattle.lincs_top.proofs.RowFacts.{has_next}
 use Rattle.lincs_top.proofs.rows.next_row.Goals as goal
 
 answered : (A B : Type 0) → A ⊎ B → (A → ⊥) → B
@@ -12,4 +13,4 @@ returns-in-Ok-clause-answer c =
     has_next c.args.problem.now c.args.table.now c.advance.new.self c.in-Ok.found a.answer a.found a.left a.number a.header a.fine
 
 pub returns-in_default-clause-answer : goal.returns-in_default-clause-answer
-returns-in_default-clause-answer c = next_refused c.args.problem.now c.args.table.now c.in-Err.fault (answered _ _ c.in-Err.ensures.answer c.in_default.not-NoMemory)
+returns-in_default-clause-answer c = rows_left-fault c.args.problem.now c.args.table.now c.in-Err.fault (answered _ _ c.in-Err.ensures.answer c.in_default.not-NoMemory)

@@ -28,11 +28,11 @@ returns-in-Some-header_fault-clause-answer c =
     let good = sym c.is_err.ensures.value ∙ c.if-is_err.false in
     let text : IsUtf8 c.deref.result.now = no-error c.from_utf8.result _ _ (IsUtf8 c.deref.result.now) (λ _ m. m.1) good c.from_utf8.ensures.cases in
     let records = sym c.in-Some.ensures.records ∙ c.in-Ok-true.ensures.next c.in-Ok-true.field-0-test in
-    inr (opening-refused c.args.problem.now c.args.bytes.items (rw c.deref.ensures.value at text) (fields_of c.read.new.record) c.read.new.self c.in-Some-header_fault.fault records (sym c.in-Some-header_fault.ensures))
+    inr (opening-refused c.args.problem.now c.args.bytes.items (rw c.deref.ensures.value at text) (fields_of c.read.new.fields) c.read.new.self c.in-Some-header_fault.fault records (sym c.in-Some-header_fault.ensures))
 
 pub returns-clause-answer : goal.returns-clause-answer
 returns-clause-answer c =
     let good = sym c.is_err.ensures.value ∙ c.if-is_err.false in
     let text : IsUtf8 c.deref.result.now = no-error c.from_utf8.result _ _ (IsUtf8 c.deref.result.now) (λ _ m. m.1) good c.from_utf8.ensures.cases in
     let records = sym c.in-Some.ensures.records ∙ c.in-Ok-true.ensures.next c.in-Ok-true.field-0-test in
-    rw c.in_ok-columns.ensures.places.criteria (opening-accepted c.args.problem.now c.args.bytes.items (rw c.deref.ensures.value at text) (fields_of c.read.new.record) c.read.new.self records (sym c.in_default-header_fault.ensures))
+    rw c.in_ok-columns.ensures.places.criteria (opening-accepted c.args.problem.now c.args.bytes.items (rw c.deref.ensures.value at text) (fields_of c.read.new.fields) c.read.new.self records (sym c.in_default-header_fault.ensures))
