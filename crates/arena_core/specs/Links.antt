@@ -1,10 +1,12 @@
 -- How chains lie in arrays: the first seat of each literal, and for each seat the next one, the one before and the place of its literal.
 use Rattle.std.specs.Prelude.{ℕ, zero, suc, ◌≡◌, ◌+◌, ◌<◌, List, [], ◌∷◌, length, map, min, ◌*◌, Contains, slice_index_or, nat_lt, if◌then◌else◌, ◌⊎◌}
 use Rattle.arena_core.specs.declared.links.Link.{Link}
+use Rattle.arena_core.specs.declared.links.TheConstants.{NONE}
+use Rattle.arena_core.specs.declared.seat.TheConstants.{MOST_SEATS}
 
 -- the number that stands for no seat and no place
 abbrev pub none : ℕ
-none = 4294967295
+none = NONE
 
 -- the seats from one on, at most so many
 abbrev pub walk : ℕ → List ℕ → ℕ → List ℕ
@@ -52,4 +54,4 @@ Keeps heads links = Holds heads (nexts links) (befores links) (owners links) (ch
 -- chains with room for the seats of so many clauses
 pub record HasRoom (heads : List ℕ) (links : List Link) (room : ℕ) : Type 0 where
   pub keeps : Keeps heads links
-  pub wide : length links ≡ min (2 * room) 4200000000
+  pub wide : length links ≡ min (2 * room) MOST_SEATS

@@ -8,6 +8,12 @@ use std::alloc::{AllocError, Global};
 use std::marker::Model;
 use std::sync::ledger::Ledger;
 
+/// The most clauses of an arena, so that twice their number and one more fits 32 bits.
+pub const MOST_CLAUSES: u32 = 2_100_000_000;
+
+/// The most literals of a clause.
+pub const MOST_LITERALS: u32 = 2_147_483_647;
+
 /// The number of a clause in its arena, from 0 in the order in which clauses were pushed.
 #[derive(Clone, Copy, Debug, PartialEq, Eq)]
 pub struct ClauseId {
@@ -16,12 +22,13 @@ pub struct ClauseId {
 
 impl Model for ClauseId {
     ghost use Rattle.std.specs.Prelude.{ℕ, ◌<◌};
+    ghost use Rattle.arena_core.specs.declared.arena.TheConstants.{MOST_CLAUSES};
 
     ghost Value = { ℕ };
 
     ghost view = { λ c. c.number };
 
-    ghost invariant = { λ c. c.number < 2100000000 };
+    ghost invariant = { λ c. c.number < MOST_CLAUSES };
 
     ghost inverse = { λ n. record { number = n } };
 }
@@ -30,7 +37,7 @@ impl ClauseId {
     /// The clause of a number.
     #[inline]
     pub fn numbered(number: u32) -> ClauseId
-        requires { number < 2100000000 }
+        requires { number < MOST_CLAUSES }
         ensures { result ≡ number }
     {
         ClauseId { number }
@@ -40,7 +47,7 @@ impl ClauseId {
     #[inline]
     pub fn number(self) -> u32
         ensures value { result ≡ self }
-        ensures small { result < 2100000000 }
+        ensures small { result < MOST_CLAUSES }
     {
         self.number
     }
@@ -85,8 +92,8 @@ impl<L: Lit> Arena<L> {
 
     /// Puts a clause last, and gives its number. Want of memory leaves the arena as it was.
     pub fn push(&mut self, literals: &[L]) -> Result<ClauseId, AllocError>
-        requires room { length self.old < 2100000000 }
-        requires short { length literals.now ≤ 2147483647 }
+        requires room { length self.old < MOST_CLAUSES }
+        requires short { length literals.now ≤ MOST_LITERALS }
         ensures id { IfOk result (λ id. id ≡ length self.old) }
         ensures clause { OnOk result (self.new ≡ self.old ++ literals.now ∷ []) }
         ensures err { OnErr result (self.new ≡ self.old) }
@@ -102,7 +109,7 @@ impl<L: Lit> Arena<L> {
         requires { id < length self.now }
         ensures clause { result.now ≡ slice_index_or self.now id [] }
         ensures look { looks.new ≡ looks.old + 1 }
-        ensures short { length result.now ≤ 2147483647 }
+        ensures short { length result.now ≤ MOST_LITERALS }
     {
         looks.tick();
         self.rows.row(id.number as usize)

@@ -1,15 +1,13 @@
 //! For each literal a chain of the seats that watch it.
 ghost use Rattle.std.specs.Prelude.{◌≡◌, ◌*◌, ◌/◌, ◌<◌, ◌≤◌, length, slice_get, OnErr, OnOk, IfOk, replicate, max, []};
+ghost use Rattle.arena_core.specs.declared.lit.TheConstants.{MOST_VARIABLES};
 ghost use Rattle.arena_core.specs.Chains.{chain_at, put_first, taken_out, IsSeated, IsNext, AreApart};
 
 use crate::links::{Link, NONE, link_in, move_in};
 use crate::lit::Lit;
-use crate::seat::Seat;
+use crate::seat::{MOST_SEATS, Seat};
 use std::alloc::{AllocError, Global};
 use std::marker::{Model, PhantomData};
-
-/// The most seats that there can be: two for each of 2,100,000,000 clauses.
-const MOST_SEATS: usize = 4200000000;
 
 /// One list of seats for each place of a literal, linked both ways, and room for the seats of `room` clauses.
 ///
@@ -37,7 +35,7 @@ impl<L: Lit> Model for Chains<L> {
 impl<L: Lit> Chains<L> {
     /// Empty chains for the literals of variables below `variables`, and no room.
     pub fn new(alloc: Global, variables: u32) -> Result<Chains<L>, AllocError>
-        requires { variables ≤ 2147483647 }
+        requires { variables ≤ MOST_VARIABLES }
         ensures chains { IfOk result (λ c. c.chains ≡ replicate (2 * variables) []) }
         ensures room { IfOk result (λ c. c.room ≡ 0) }
     {
@@ -59,7 +57,7 @@ impl<L: Lit> Chains<L> {
         ensures err { OnErr result (self.new.room ≡ self.old.room) }
     {
         if clauses > self.room {
-            let size = (2 * clauses as usize).min(MOST_SEATS);
+            let size = (2 * clauses as usize).min(MOST_SEATS as usize);
             self.links.resize(size, Link::FREE)?;
             self.room = clauses;
         }

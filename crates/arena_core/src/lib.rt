@@ -1,9 +1,9 @@
 //! Clauses in one flat arena, and chains of the seats that watch their literals.
 #![tactic(auto)]
 
-pub use arena::{Arena, ClauseId};
+pub use arena::{Arena, ClauseId, MOST_CLAUSES, MOST_LITERALS};
 pub use chains::Chains;
-pub use lit::Lit;
+pub use lit::{Lit, MOST_VARIABLES};
 pub use seat::Seat;
 pub use small_lit::SmallLit;
 pub use steps::Steps;

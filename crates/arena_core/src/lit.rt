@@ -1,6 +1,9 @@
 //! Literals of any type.
 ghost use Rattle.std.specs.Prelude.{◌≡◌, ◌≢◌, ℕ, ◌+◌, ◌*◌, ◌⊎◌};
 
+/// The most variables, so that two places for each fit 32 bits.
+pub const MOST_VARIABLES: u32 = 2_147_483_647;
+
 /// A literal: a variable, numbered from 0, or its negation.
 ///
 /// The arena, the chains and propagation use nothing of a literal but these three calls and their laws.

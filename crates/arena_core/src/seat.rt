@@ -4,6 +4,9 @@ ghost use Rattle.std.specs.Prelude.{◌≡◌, ◌+◌, ◌*◌, ◌/◌, ◌%�
 use crate::arena::ClauseId;
 use std::marker::Model;
 
+/// The most seats that there can be: two for each clause.
+pub const MOST_SEATS: u32 = 4_200_000_000;
+
 /// A clause and a side, 0 or 1; contracts see it as twice the number of the clause, plus the side.
 #[derive(Clone, Copy, Debug, PartialEq, Eq)]
 pub struct Seat {
@@ -12,12 +15,13 @@ pub struct Seat {
 
 impl Model for Seat {
     ghost use Rattle.std.specs.Prelude.{ℕ, ◌<◌};
+    ghost use Rattle.arena_core.specs.declared.seat.TheConstants.{MOST_SEATS};
 
     ghost Value = { ℕ };
 
     ghost view = { λ s. s.number };
 
-    ghost invariant = { λ s. s.number < 4200000000 };
+    ghost invariant = { λ s. s.number < MOST_SEATS };
 
     ghost inverse = { λ n. record { number = n } };
 }
@@ -37,7 +41,7 @@ impl Seat {
     /// The seat at a place in a table of seats.
     #[inline]
     pub(crate) fn at(number: u32) -> Seat
-        requires { number < 4200000000 }
+        requires { number < MOST_SEATS }
         ensures { result ≡ number }
     {
         Seat { number }

@@ -1,5 +1,6 @@
 //! The arena and the chains at a concrete type of literals.
 ghost use Rattle.std.specs.Prelude.{◌≡◌, ◌+◌, ◌*◌, ◌<◌, false};
+ghost use Rattle.arena_core.specs.declared.arena.TheConstants.{MOST_CLAUSES};
 
 use crate::{Arena, Chains, ClauseId, Lit, Seat, SmallLit, Steps};
 use std::alloc::Global;
@@ -18,7 +19,7 @@ fn positive(variable: u8) -> SmallLit
 }
 
 fn right_seat(number: u32) -> Seat
-    requires { number < 2100000000 }
+    requires { number < MOST_CLAUSES }
     ensures { result ≡ 2 * number + 1 }
 {
     Seat::of(ClauseId::numbered(number), 1)

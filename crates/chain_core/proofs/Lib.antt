@@ -11,3 +11,4 @@ pub mod HintFacts
 pub mod LineFacts
 pub mod WordFacts
 pub mod ReadsBack
+pub mod FreshFacts

@@ -1,13 +1,17 @@
 -- What writers leave: words with a space after each, and items one after another.
 use Rattle.std.proofs.Common.{◌≡◌, ℕ, ◌+◌, ◌<◌, ◌≤◌, List, [], ◌∷◌, ◌++◌, length, map, get_or, take, drop, refl, sym, ap, ◌∙◌, subst}
-use Rattle.std.specs.Prelude.{Result, IsErr, decimal, codes}
-use Rattle.std.specs.List.{flat_map, join_with_byte}
+use Rattle.std.specs.Prelude.{Result, Ok, Err, IsErr, OnOk, Some, decimal, codes}
+use Rattle.std.specs.List.{All, slice_get, flat_map, join_with_byte}
 use Rattle.std.proofs.lemmas.List.{append_assoc, take_more, take_all, drop_more, take-append-drop, flat_map_more}
 use Rattle.std.proofs.lemmas.List.Concat.{flat_map-append}
+use Rattle.std.proofs.lemmas.List.Elements.{All-more}
+use Rattle.std.proofs.lemmas.Option.{slice_get_within, get_or_from_slice_get}
 use Rattle.lists_core.specs.Puts.{Puts}
 use Rattle.lists_core.proofs.PutsFacts.{puts-then, puts-cut, puts-failed}
 use Rattle.chain_core.specs.Text.{line_of, sign_text, literal_word, size_words, clause_words, lemma_words, header_words, dimacs_text}
 use Rattle.chain_core.specs.Cnf.{Cnf}
+use Rattle.chain_core.specs.Lemma.{IsNumbered}
+use Rattle.chain_core.specs.Reading.{IsWritable}
 use Rattle.chain_core.specs.Literal.{variable_of}
 use Rattle.chain_core.specs.declared.encoding.Encoding.{Encoding}
 use Rattle.chain_core.specs.declared.encoding.Encoding.TheVariants.{Separation}
@@ -119,3 +123,26 @@ module _ {X : Type 0} (text_of : X → List ℕ) (xs : List X) (i : ℕ) (x : X)
 
   pub all_put : length xs ≤ i → mid ≡ old ++ flat_map text_of (take i xs) → mid ≡ old ++ flat_map text_of xs
   all_put past was = was ∙ ap (λ ys. old ++ flat_map text_of ys) (take_all i xs past)
+
+-- what holds anyway holds where a call succeeds
+pub OnOk-known : {T E P : Type 0} (r : Result T E) → P → OnOk r P
+OnOk-known (Ok v) holds = holds
+OnOk-known (Err e) holds = tt
+
+-- what holds of each lemma holds of the one at a place
+pub All-slice_get : (P : Lemma → Type 0) (log : List Lemma) (k : ℕ) (lemma : Lemma) → All P log → slice_get log k ≡ Some lemma → P lemma
+All-slice_get P log k lemma all at = subst P (get_or_from_slice_get log k lemma lemma at) (all k lemma (slice_get_within log k lemma at))
+
+-- a lemma whose numbers count from 1 and fit is writable
+pub writable_by : (lemma : Lemma) (literals hints : List ℕ) → IsNumbered lemma → literals ≡ lemma.literals → hints ≡ lemma.hints
+    → lemma.id ≤ 4294967295 → All (λ l. (2 ≤ l) × (l ≤ 4294967295)) literals → All (λ h. h ≤ 4294967295) hints → IsWritable lemma
+writable_by lemma literals hints numbered is_literals is_hints id places ids = record {
+  id = (numbered.id, id);
+  literals = subst (All (λ l. (2 ≤ l) × (l ≤ 4294967295))) is_literals places;
+  hints = λ k d lt. (numbered.hints k d lt, subst (All (λ h. h ≤ 4294967295)) is_hints ids k d lt);
+}
+
+-- one more lemma is writable
+pub writable_more : (log : List Lemma) (k : ℕ) (lemma : Lemma) → slice_get log k ≡ Some lemma → All IsWritable (take k log) → IsWritable lemma → All IsWritable (take (k + 1) log)
+writable_more log k lemma at before here =
+    All-more IsWritable log k lemma (slice_get_within log k lemma at) before (subst IsWritable (sym (get_or_from_slice_get log k lemma lemma at)) here)

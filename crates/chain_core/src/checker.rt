@@ -2,6 +2,7 @@
 ghost use Rattle.std.specs.Prelude.{◌≡◌, ◌↔◌, ◌==◌, ◌||◌, nat_lt, nat_le, ◌+◌, ◌*◌, ◌<◌, ◌≤◌, ◌⊎◌, length, MatchResult, All, OnOk, Some, None};
 ghost use Rattle.std.specs.Bool.{OnFalse};
 ghost use Rattle.std.specs.List.{list_any};
+ghost use Rattle.lists_core.specs.declared.list_of.TheConstants.{MOST_ITEMS};
 ghost use Rattle.chain_core.specs.Literal.{variable_of};
 ghost use Rattle.chain_core.specs.Cnf.{InRange};
 ghost use Rattle.chain_core.specs.Log.{known_before, lemma_fault, first_fault, refutation_fault, IsRefutation, ends_empty};
@@ -87,7 +88,7 @@ fn check_lemma(
     lemma: &Lemma,
     stamps: &mut [u32],
 ) -> Result<(), CheckFault>
-    requires few { k < 4000000000 }
+    requires few { k < MOST_ITEMS }
     requires earlier { k ≤ length log.now }
     requires size { length stamps.old ≡ 2 * formula.now.variables + 2 }
     requires bound { All (λ s. s ≤ k) stamps.old }

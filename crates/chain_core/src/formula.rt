@@ -12,7 +12,8 @@ use std::marker::Model;
 /// The greatest variable, so that twice a variable and one more fits 32 bits.
 pub const MOST_VARIABLES: u32 = 2_147_483_647;
 
-/// The most clauses of a formula, so that ids of lemmas that follow them fit 32 bits.
+/// The most clauses of a formula: their ids, and those of two billion lemmas after them, fit 32 bits.
+/// A longer log is refused at the first lemma whose id doesn't fit.
 pub const MOST_CLAUSES: u32 = 2_000_000_000;
 
 /// A number of variables and a list of clauses.

@@ -1,7 +1,9 @@
 //! The texts of formulas and of logs.
-ghost use Rattle.std.specs.Prelude.{◌≡◌, [], ◌∷◌, ◌++◌, codes, decimal};
+ghost use Rattle.std.specs.Prelude.{◌≡◌, [], ◌∷◌, ◌++◌, ◌≤◌, codes, decimal, All, OnOk, Ok};
 ghost use Rattle.std.specs.List.{flat_map};
 ghost use Rattle.lists_core.specs.Puts.{Puts};
+ghost use Rattle.chain_core.specs.Lemma.{IsNumbered};
+ghost use Rattle.chain_core.specs.Reading.{log_of, IsWritable};
 ghost use Rattle.chain_core.specs.Text.{line_of, sign_text, literal_word, size_words, clause_words, dimacs_text, lemma_words, header_words, log_text};
 
 use crate::encoding::Encoding;
@@ -19,9 +21,10 @@ pub fn put_dimacs(formula: &Formula, out: &mut Vec<u8>) -> Result<(), AllocError
     put_clauses(formula, out)
 }
 
-/// Appends the text of a log. Where memory runs out, part of the text was appended.
+/// Appends the text of a log, which reads as that encoding and log. Where memory runs out, part of the text was appended.
 pub fn write_log(encoding: Encoding, log: &Log, out: &mut Vec<u8>) -> Result<(), AllocError>
     ensures text { Puts out.old.items out.new.items result (log_text encoding log.now) }
+    ensures reads_back { OnOk result (log_of (log_text encoding log.now) ≡ Ok (encoding, log.now)) }
 {
     put_header(encoding, out)?;
     put_lemmas(log, out)
@@ -66,7 +69,8 @@ fn put_header(encoding: Encoding, out: &mut Vec<u8>) -> Result<(), AllocError>
 
 /// Appends the line of each lemma.
 fn put_lemmas(log: &Log, out: &mut Vec<u8>) -> Result<(), AllocError>
-    ensures { Puts out.old.items out.new.items result (flat_map (λ lemma. line_of (lemma_words lemma)) log.now) }
+    ensures text { Puts out.old.items out.new.items result (flat_map (λ lemma. line_of (lemma_words lemma)) log.now) }
+    ensures writable { OnOk result (All IsWritable log.now) }
 {
     for k in 0..log.count() {
         put_lemma(log.lemma(k), out)?;
@@ -76,7 +80,9 @@ fn put_lemmas(log: &Log, out: &mut Vec<u8>) -> Result<(), AllocError>
 
 /// Appends the line of a lemma.
 fn put_lemma(lemma: &Lemma, out: &mut Vec<u8>) -> Result<(), AllocError>
-    ensures { Puts out.old.items out.new.items result (line_of (lemma_words lemma.now)) }
+    requires { IsNumbered lemma.now }
+    ensures text { Puts out.old.items out.new.items result (line_of (lemma_words lemma.now)) }
+    ensures writable { OnOk result (IsWritable lemma.now) }
 {
     put_id(lemma.id, out)?;
     put_literals(lemma.literals.as_slice(), out)?;
@@ -87,7 +93,8 @@ fn put_lemma(lemma: &Lemma, out: &mut Vec<u8>) -> Result<(), AllocError>
 
 /// Appends literals, with a space after each.
 fn put_literals(literals: &[Literal], out: &mut Vec<u8>) -> Result<(), AllocError>
-    ensures { Puts out.old.items out.new.items result (flat_map (λ l. literal_word l ++ 32 ∷ []) literals.now) }
+    ensures text { Puts out.old.items out.new.items result (flat_map (λ l. literal_word l ++ 32 ∷ []) literals.now) }
+    ensures reach { OnOk result (All (λ l. (2 ≤ l) × (l ≤ 4294967295)) literals.now) }
 {
     for literal in literals {
         put_literal(*literal, out)?;
@@ -97,7 +104,8 @@ fn put_literals(literals: &[Literal], out: &mut Vec<u8>) -> Result<(), AllocErro
 
 /// Appends a literal and a space.
 fn put_literal(literal: Literal, out: &mut Vec<u8>) -> Result<(), AllocError>
-    ensures { Puts out.old.items out.new.items result (literal_word literal ++ 32 ∷ []) }
+    ensures text { Puts out.old.items out.new.items result (literal_word literal ++ 32 ∷ []) }
+    ensures reach { OnOk result ((2 ≤ literal) × (literal ≤ 4294967295)) }
 {
     put_sign(literal, out)?;
     put_id(literal.variable(), out)
@@ -116,7 +124,8 @@ fn put_sign(literal: Literal, out: &mut Vec<u8>) -> Result<(), AllocError>
 
 /// Appends ids, with a space after each.
 fn put_ids(ids: &[u32], out: &mut Vec<u8>) -> Result<(), AllocError>
-    ensures { Puts out.old.items out.new.items result (flat_map (λ id. decimal id ++ 32 ∷ []) ids.now) }
+    ensures text { Puts out.old.items out.new.items result (flat_map (λ id. decimal id ++ 32 ∷ []) ids.now) }
+    ensures reach { OnOk result (All (λ id. id ≤ 4294967295) ids.now) }
 {
     for id in ids {
         put_id(*id, out)?;
@@ -126,7 +135,8 @@ fn put_ids(ids: &[u32], out: &mut Vec<u8>) -> Result<(), AllocError>
 
 /// Appends an id and a space.
 fn put_id(id: u32, out: &mut Vec<u8>) -> Result<(), AllocError>
-    ensures { Puts out.old.items out.new.items result (decimal id ++ 32 ∷ []) }
+    ensures text { Puts out.old.items out.new.items result (decimal id ++ 32 ∷ []) }
+    ensures reach { id ≤ 4294967295 }
 {
     put_number(id, out)?;
     put_text(b" ", out)

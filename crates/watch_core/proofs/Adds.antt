@@ -248,20 +248,6 @@ either_of : (b : Bool) → (b ≡ true) ⊎ (b ≡ false)
 either_of true = inl refl
 either_of false = inr refl
 
-some_open : (now xs : List ℕ) (j : ℕ) → j < length xs → is_false now (get_or xs j 0) ≡ false → 1 ≤ length (open_literals now xs)
-some_open now [] j lt o = absurd (omega (arith, lt))
-some_open now (y ∷ ys) zero lt o = (let n = ap length (head_open now y ys o) in omega (arith, n))
-some_open now (y ∷ ys) (suc j) lt o = elim (either_of (is_false now y)) [
-  | inl e ↦ (let n = ap length (head_shut now y ys e) in let m = some_open now ys j (omega (arith, lt)) o in omega (arith, n, m))
-  | inr e ↦ (let n = ap length (head_open now y ys e) in omega (arith, n))
-]
-
-pub stands_more : (now : List ℕ) (x : ℕ) (xs : List ℕ) (j : ℕ) → is_false now x ≡ false → j < length xs → is_false now (get_or xs j 0) ≡ false → Free ≡ standing_of now (x ∷ xs)
-stands_more now x xs j f lt o = go (open_literals now xs) (some_open now xs j lt o) ∙ sym (ap (standing_open now) (head_open now x xs f)) where
-  go : (ys : List ℕ) → 1 ≤ length ys → Free ≡ standing_open now (x ∷ ys)
-  go [] h = absurd (omega (arith, h))
-  go (y ∷ ys) h = refl
-
 pub stands_unit : (set : List ℕ) (x : ℕ) (xs : List ℕ) → is_false set x ≡ false → is_true set x ≡ false → ((j : ℕ) → j < length xs → is_false set (get_or xs j 0) ≡ true) → Unit ≡ standing_of set (x ∷ xs)
 stands_unit set x xs f t all = sym (ap (standing_open set) (head_open set x xs f ∙ ap (λ ys. x ∷ ys) (none' xs all)) ∙ ap (λ b. cond b Free Unit) t) where
   none' : (xs : List ℕ) → ((j : ℕ) → j < length xs → is_false set (get_or xs j 0) ≡ true) → open_literals set xs ≡ []
@@ -274,10 +260,16 @@ stands_false set x f = sym (ap (standing_open set) (head_shut set x [] f))
 pub clause_inside : {L : Type 0} (at : L → ℕ) (n : ℕ) (clause : List L) → All (λ l. l < n) (map at clause) → All (λ l. at l < n) clause
 clause_inside at n clause h k d lt = (let a = h k 0 (let m = length-map clause at in omega (arith, m, lt)) in let e = get_or-map at clause k d 0 lt in omega (arith, a, e))
 
-pub find_more : {L : Type 0} (at : L → ℕ) (now : List ℕ) (clause : List L) (first : L) (j : ℕ) → first ≡ get_or clause 0 first → is_false now (at first) ≡ false → 2 ≤ j → j < length clause → ((l : L) → is_false now (at (get_or clause j l)) ≡ false) → Free ≡ standing_of now (map at clause)
-find_more at now [] first j e f far lj o = absurd (omega (arith, lj))
-find_more at now (x ∷ xs) first zero e f far lj o = absurd (omega (arith, far))
-find_more at now (x ∷ xs) first (suc j) e f far lj o = stands_more now (at x) (map at xs) j (ap (λ y. is_false now (at y)) (sym e) ∙ f) (let m = length-map xs at in omega (arith, m, lj)) (ap (is_false now) (get_or-map at xs j x 0 (omega (arith, lj))) ∙ o x)
+-- where the second literal of a new clause is false, all later ones are
+pub later_false : {L : Type 0} (at : L → ℕ) (t : Assignment L) (clause : List L) (second : L) → CanAdd at t (map at clause) → 2 ≤ length clause → second ≡ get_or clause 1 second → is_false (places at t.entries) (at second) ≡ true
+    → (j : ℕ) (l : L) → 2 ≤ j → j < length clause → is_false (places at t.entries) (at (get_or clause j l)) ≡ true
+later_false at t clause second can long is shut j l far lt =
+    let size = length-map clause at in
+    let there : get_or (map at clause) 1 0 ≡ at second = get_or-map at clause 1 second 0 (omega (arith, long)) ∙ ap at (sym is) in
+    elim (can.second (omega (arith, size, long))) [
+      | inl open' ↦ absurd (false≢true (sym open' ∙ ap (is_false (places at t.entries)) there ∙ shut))
+      | inr rest ↦ sym (ap (is_false (places at t.entries)) (get_or-map at clause j l 0 lt)) ∙ (rest j (omega (arith, far)) (omega (arith, size, lt))).0
+    ]
 
 pub find_unit : {L : Type 0} (at : L → ℕ) (now : List ℕ) (clause : List L) (first second : L) → first ≡ get_or clause 0 first → second ≡ get_or clause 1 second → 2 ≤ length clause → is_false now (at first) ≡ false → is_true now (at first) ≡ false → is_false now (at second) ≡ true → ((j : ℕ) (l : L) → 2 ≤ j → j < length clause → is_false now (at (get_or clause j l)) ≡ true) → Unit ≡ standing_of now (map at clause)
 find_unit at now [] first second e1 e2 long f t g rest = absurd (omega (arith, long))

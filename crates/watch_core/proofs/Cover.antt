@@ -177,11 +177,11 @@ all_settled set clauses all i d lt long =
     ]) in
     let zero' : (2 * i) / 2 ≡ i = omega arith in
     let one' : (2 * i + 1) / 2 ≡ i = omega arith in
-    let Q : ℕ → ℕ → Type 0 = λ k m. is_false set (get_or (get_or clauses k []) m 0) ≡ true → HasTrue set (get_or clauses k []) in
-    let Q0 : ℕ → Type 0 = λ k. Q k 0 in
-    let Q1 : ℕ → Type 0 = λ k. Q k 1 in
-    let R0 : ℕ → Type 0 = λ m. Q ((2 * i) / 2) m in
-    let R1 : ℕ → Type 0 = λ m. Q ((2 * i + 1) / 2) m in
-    let a : Q0 i = subst Q0 zero' (subst R0 (let z : (2 * i) % 2 ≡ 0 = omega arith in z) (side (2 * i) zero')) in
-    let b : Q1 i = subst Q1 one' (subst R1 (let z : (2 * i + 1) % 2 ≡ 1 = omega arith in z) (side (2 * i + 1) one')) in
-    subst P (sym e) (settled_one set (get_or clauses i []) (let m = ap length e in omega (arith, m, long)) a b)
+    let CoveredAt : ℕ → ℕ → Type 0 = λ c place. is_false set (get_or (get_or clauses c []) place 0) ≡ true → HasTrue set (get_or clauses c []) in
+    let CoveredFirst : ℕ → Type 0 = λ c. CoveredAt c 0 in
+    let CoveredSecond : ℕ → Type 0 = λ c. CoveredAt c 1 in
+    let OfFirstSeat : ℕ → Type 0 = λ place. CoveredAt ((2 * i) / 2) place in
+    let OfSecondSeat : ℕ → Type 0 = λ place. CoveredAt ((2 * i + 1) / 2) place in
+    let first : CoveredFirst i = subst CoveredFirst zero' (subst OfFirstSeat (let side_is : (2 * i) % 2 ≡ 0 = omega arith in side_is) (side (2 * i) zero')) in
+    let second : CoveredSecond i = subst CoveredSecond one' (subst OfSecondSeat (let side_is : (2 * i + 1) % 2 ≡ 1 = omega arith in side_is) (side (2 * i + 1) one')) in
+    subst P (sym e) (settled_one set (get_or clauses i []) (let m = ap length e in omega (arith, m, long)) first second)

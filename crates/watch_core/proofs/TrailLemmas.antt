@@ -6,10 +6,13 @@ use Rattle.std.proofs.lemmas.List.{map-append, length-set, length-append, length
 use Rattle.std.proofs.lemmas.List.Elements.{All-map, All-set}
 use Rattle.std.proofs.lemmas.Bool.{cases_eq, false≢true}
 use Rattle.std.proofs.lemmas.Bool.Decides.{nat_tests}
+use Rattle.arena_core.specs.declared.arena.TheConstants.{MOST_CLAUSES}
+use Rattle.arena_core.specs.declared.lit.TheConstants.{MOST_VARIABLES}
 use Rattle.watch_core.specs.Places.{opposite_place, is_true}
 use Rattle.watch_core.specs.Trail.{Entry, Assignment, IsTrail, IsLeveled, places, value_of, undone, cut, order, waiting, empty_trail}
 use Rattle.watch_core.specs.Kept.{blank, reason_of, entry_of, entries_of, IsKept, Keeps}
 use Rattle.watch_core.specs.declared.trail.Mark.{Mark}
+use Rattle.watch_core.specs.declared.trail.TheConstants.{NO_REASON}
 use Rattle.watch_core.proofs.Assign.{more_true, or_none, value_none, twice, not_eqb, order_short, course_assigned}
 use Rattle.watch_core.proofs.Levels.{leveled_more, leveled_cut, cut_is, cut_all}
 
@@ -47,7 +50,7 @@ trail_is {L} at values marks order capacity taken level k = record {
 
 -- all that `enter` keeps
 pub keeps_entered : {L : Type 0} (at : L → ℕ) (values : List ℕ) (marks : List Mark) (order order' : List L) (capacity capacity' taken place q n level0 level level' : ℕ) (l : L) (m : Mark) (entries : List (Entry L)) → Keeps at values marks order capacity taken level → entries_of at marks order ≡ entries → length marks ≡ n → place ≡ at l → at l < 2 * n → q ≡ opposite_place (at l)
-    → value_of (places at entries) (at l) ≡ None → order' ≡ order ++ l ∷ [] → capacity ≤ capacity' → level ≡ level0 → (level' ≡ level0) ⊎ (level' ≡ level0 + 1) → m.level ≡ level' → (m.reason ≡ 4294967295) ⊎ (m.reason < 2100000000)
+    → value_of (places at entries) (at l) ≡ None → order' ≡ order ++ l ∷ [] → capacity ≤ capacity' → level ≡ level0 → (level' ≡ level0) ⊎ (level' ≡ level0 + 1) → m.level ≡ level' → (m.reason ≡ NO_REASON) ⊎ (m.reason < MOST_CLAUSES)
     → Keeps at (set (set values place 1) q 2) (set marks (place / 2) m) order' capacity' taken level'
 keeps_entered {L} at values marks order order' capacity capacity' taken place q n level0 level level' l m entries k e size same lt eq free grown wide lv step is valid =
     let done = course_assigned at values marks order order' capacity capacity' taken place q n l m entries k.kept e size same lt eq free grown wide in
@@ -58,7 +61,7 @@ keeps_entered {L} at values marks order order' capacity capacity' taken place q 
       kept = done.0;
       leveled = subst P (sym done.1) (leveled_more entries level level' (record { literal = l; level = m.level; reason = reason_of m.reason }) (subst Q e k.leveled) step' is);
       few = (let s = length-set marks (place / 2) m in omega (arith, s, k.few));
-      reasons = All-set (λ (x : Mark). (x.reason ≡ 4294967295) ⊎ (x.reason < 2100000000)) marks (place / 2) m valid k.reasons;
+      reasons = All-set (λ (x : Mark). (x.reason ≡ NO_REASON) ⊎ (x.reason < MOST_CLAUSES)) marks (place / 2) m valid k.reasons;
     }
 
 same_half : (p : ℕ) → opposite_place p / 2 ≡ p / 2
@@ -262,7 +265,7 @@ pub not_unset : (value read : Option Bool) (b : Bool) → read ≡ value → val
 not_unset value None b e none' is h = false≢true (is ∙ ap not h)
 not_unset value (Some x) b e none' is h = cc
 
-pub empty_is : {L : Type 0} (at : L → ℕ) (t : Assignment L) (variables : ℕ) → t ≡ empty_trail variables → variables ≤ 2147483647 → IsTrail at t
+pub empty_is : {L : Type 0} (at : L → ℕ) (t : Assignment L) (variables : ℕ) → t ≡ empty_trail variables → variables ≤ MOST_VARIABLES → IsTrail at t
 empty_is {L} at t variables is few =
     let P : Assignment L → Type 0 = λ u. IsTrail at u in
     subst P (sym is) (record {

@@ -1,16 +1,19 @@
 -- What a trail keeps in its tables.
 use Rattle.std.specs.Prelude.{ℕ, ◌≡◌, ◌≢◌, ◌*◌, ◌/◌, ◌==◌, ◌⊎◌, ◌<◌, ◌≤◌, List, length, map, All, Option, Some, None, slice_index, slice_index_or, if◌then◌else◌}
+use Rattle.arena_core.specs.declared.arena.TheConstants.{MOST_CLAUSES}
+use Rattle.arena_core.specs.declared.lit.TheConstants.{MOST_VARIABLES}
 use Rattle.watch_core.specs.Places.{is_true, is_false}
 use Rattle.watch_core.specs.Trail.{Entry, IsLeveled}
 use Rattle.watch_core.specs.declared.trail.Mark.{Mark}
+use Rattle.watch_core.specs.declared.trail.TheConstants.{NO_REASON}
 
 -- the mark of a variable that was never assigned
 abbrev pub blank : Mark
-blank = record { level = 0; reason = 4294967295 }
+blank = record { level = 0; reason = NO_REASON }
 
 -- the clause that a number stands for, if any
 abbrev pub reason_of : ℕ → Option ℕ
-reason_of n = if n == 4294967295 then None else Some n
+reason_of n = if n == NO_REASON then None else Some n
 
 -- a true literal with what the mark of its variable says
 abbrev pub entry_of : {L : Type 0} → (L → ℕ) → List Mark → L → Entry L
@@ -34,5 +37,5 @@ pub record IsKept {L : Type 0} (at : L → ℕ) (values : List ℕ) (marks : Lis
 pub record Keeps {L : Type 0} (at : L → ℕ) (values : List ℕ) (marks : List Mark) (order : List L) (capacity taken level : ℕ) : Type 0 where
   pub kept : IsKept at values marks order capacity taken
   pub leveled : IsLeveled (entries_of at marks order) level
-  pub few : length marks ≤ 2147483647
-  pub reasons : All (λ (m : Mark). (m.reason ≡ 4294967295) ⊎ (m.reason < 2100000000)) marks
+  pub few : length marks ≤ MOST_VARIABLES
+  pub reasons : All (λ (m : Mark). (m.reason ≡ NO_REASON) ⊎ (m.reason < MOST_CLAUSES)) marks

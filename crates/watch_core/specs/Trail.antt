@@ -1,5 +1,6 @@
 -- What is assigned: the true literals in order, with a level and maybe a reason each.
 use Rattle.std.specs.Prelude.{ℕ, ◌+◌, ◌*◌, ◌/◌, ◌≢◌, ◌<◌, ◌≤◌, nat_le, Bool, true, false, List, [], ◌∷◌, ◌++◌, length, map, drop, filter, min, Option, Some, None, slice_index_or, if◌then◌else◌, All}
+use Rattle.arena_core.specs.declared.lit.TheConstants.{MOST_VARIABLES}
 use Rattle.watch_core.specs.Places.{is_true, is_false}
 
 -- a true literal, its level, and the clause that it follows from, if any
@@ -59,7 +60,7 @@ one_taken t = record { entries = t.entries; level = t.level; taken = t.taken + 1
 abbrev pub empty_trail : {L : Type 0} → ℕ → Assignment L
 empty_trail variables = record { entries = []; level = 0; taken = 0; variables = variables }
 
--- levels along a trail: none falls, none is above the current one, and each has an entry that began it
+-- levels along a trail: none falls, none is above the current one, and the entries of levels up to k are at least k
 pub record IsLeveled {L : Type 0} (entries : List (Entry L)) (level : ℕ) : Type 0 where
   pub sorted : (i j : ℕ) (d : Entry L) → i < j → j < length entries → (slice_index_or entries i d).level ≤ (slice_index_or entries j d).level
   pub below : All (λ (e : Entry L). e.level ≤ level) entries
@@ -70,7 +71,7 @@ pub record IsTrail {L : Type 0} (at : L → ℕ) (t : Assignment L) : Type 0 whe
   pub inside : All (λ (e : Entry L). at e.literal < 2 * t.variables) t.entries
   pub leveled : IsLeveled t.entries t.level
   pub within : t.taken ≤ length t.entries
-  pub few : t.variables ≤ 2147483647
+  pub few : t.variables ≤ MOST_VARIABLES
   pub low : t.level ≤ t.variables
   pub short : length t.entries ≤ t.variables
   pub apart : (i j : ℕ) (d : Entry L) → i < j → j < length t.entries → at (slice_index_or t.entries i d).literal / 2 ≢ at (slice_index_or t.entries j d).literal / 2

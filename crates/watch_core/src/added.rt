@@ -4,7 +4,7 @@ ghost use Rattle.arena_core.specs.Chains.{IsSeated};
 ghost use Rattle.watch_core.specs.Trail.{places};
 ghost use Rattle.watch_core.specs.Added.{CanAdd, standing_of, both_put};
 
-use crate::trail::{Trail, open_place};
+use crate::trail::Trail;
 use arena_core::{Chains, ClauseId, Lit, Seat};
 
 /// How a new clause stands.
@@ -46,10 +46,8 @@ pub(crate) fn find_standing<L: Lit>(trail: &Trail<L>, clause: &[L]) -> Standing
     if !trail.is_false(clause[1]) {
         return Standing::Free;
     }
-    match open_place(trail, clause) {
-        Some(_) => Standing::Free,
-        None => Standing::Unit,
-    }
+    // Where the second literal is false, all but the first are.
+    Standing::Unit
 }
 
 /// Puts both seats of a clause into their chains.

@@ -1,5 +1,7 @@
 //! The trail: the true literals in order, with the level and the reason of each.
 ghost use Rattle.std.specs.Prelude.{IfOk, take, slice_get, ◌⊎◌, ◌≡◌, ◌+◌, ◌*◌, ◌/◌, ◌<◌, ◌≤◌, ℕ, All, IfSome, IfNone, slice_index_or, length, Option, Some, None, true, false};
+ghost use Rattle.arena_core.specs.declared.arena.TheConstants.{MOST_CLAUSES};
+ghost use Rattle.arena_core.specs.declared.lit.TheConstants.{MOST_VARIABLES};
 ghost use Rattle.watch_core.specs.Places.{is_true, is_false};
 ghost use Rattle.watch_core.specs.Trail.{Assignment, Entry, IsTrail, order, places, cut, waiting, value_of, entered, assigned, decided, undone, one_taken, empty_trail};
 ghost use Rattle.watch_core.specs.Kept.{reason_of, entries_of, IsKept};
@@ -15,7 +17,7 @@ const TRUE: u8 = 1;
 const FALSE: u8 = 2;
 
 /// Stands for no reason: above the number of each clause.
-const NO_REASON: u32 = 4294967295;
+const NO_REASON: u32 = 4_294_967_295;
 
 /// The level of a variable, and the number of the clause that is its reason.
 #[derive(Clone, Copy)]
@@ -52,7 +54,7 @@ impl<L: Lit> Model for Trail<L> {
 impl<L: Lit> Trail<L> {
     /// No literals, with room for the variables below `variables`.
     pub fn new(alloc: Global, variables: u32) -> Result<Trail<L>, AllocError>
-        requires { variables ≤ 2147483647 }
+        requires { variables ≤ MOST_VARIABLES }
         ensures { IfOk result (λ t. t ≡ empty_trail variables) }
     {
         let blank = Mark {
@@ -179,7 +181,7 @@ impl<L: Lit> Trail<L> {
     fn enter(&mut self, literal: L, level: u32, reason: u32)
         requires place { L.table_place literal < 2 * self.old.variables }
         requires free { value_of (places L.table_place self.old.entries) (L.table_place literal) ≡ None }
-        requires reason { (reason ≡ 4294967295) ⊎ (reason < 2100000000) }
+        requires reason { (reason ≡ NO_REASON) ⊎ (reason < MOST_CLAUSES) }
         requires level { (level ≡ self.old.level) ⊎ (level ≡ self.old.level + 1) }
         ensures value { self.new ≡ entered self.old literal level (reason_of reason) }
         ensures kept { IsTrail L.table_place self.new }
@@ -260,7 +262,7 @@ fn clear_above<L: Lit>(values: &mut [u8], marks: &[Mark], order: &[L], level: u3
 #[inline]
 fn number_of(reason: Option<ClauseId>) -> u32
     ensures value { reason_of result ≡ reason }
-    ensures valid { (result ≡ 4294967295) ⊎ (result < 2100000000) }
+    ensures valid { (result ≡ NO_REASON) ⊎ (result < MOST_CLAUSES) }
 {
     match reason {
         None => NO_REASON,
@@ -271,7 +273,7 @@ fn number_of(reason: Option<ClauseId>) -> u32
 /// The reason that a number stands for.
 #[inline]
 fn reason_numbered(number: u32) -> Option<ClauseId>
-    requires { (number ≡ 4294967295) ⊎ (number < 2100000000) }
+    requires { (number ≡ NO_REASON) ⊎ (number < MOST_CLAUSES) }
     ensures { result ≡ reason_of number }
 {
     if number == NO_REASON {

@@ -1,5 +1,8 @@
 //! Clauses with a trail, and propagation by watched seats.
-ghost use Rattle.std.specs.Prelude.{ℕ, Contains, ◌≡◌, ◌+◌, ◌*◌, ◌<◌, ◌≤◌, [], length, map, drop, ◌∷◌, ◌++◌, OnOk, OnErr, Option, None, IfOk, slice_index_or};
+ghost use Rattle.std.specs.Prelude.{ℕ, Contains, ◌≡◌, ◌==◌, ◌+◌, ◌*◌, ◌<◌, ◌≤◌, [], length, map, drop, ◌∷◌, ◌++◌, OnOk, OnErr, Option, None, IfOk, slice_index_or};
+ghost use Rattle.std.specs.List.{IsDistinct};
+ghost use Rattle.arena_core.specs.declared.arena.TheConstants.{MOST_CLAUSES};
+ghost use Rattle.arena_core.specs.declared.lit.TheConstants.{MOST_VARIABLES};
 ghost use Rattle.watch_core.specs.Places.{placed};
 ghost use Rattle.watch_core.specs.Trail.{IsTrail, places, waiting, value_of, assigned, decided, undone, empty_trail};
 ghost use Rattle.watch_core.specs.Settled.{CanPropagate, Outcome};
@@ -39,7 +42,7 @@ impl<L: Lit> Model for Watched<L> {
 impl<L: Lit> Watched<L> {
     /// No clauses and no true literals, with room for the variables below `variables`.
     pub fn new(alloc: Global, variables: u32) -> Result<Watched<L>, AllocError>
-        requires { variables ≤ 2147483647 }
+        requires { variables ≤ MOST_VARIABLES }
         ensures clauses { IfOk result (λ w. w.clauses ≡ []) }
         ensures trail { IfOk result (λ w. w.trail ≡ empty_trail variables) }
     {
@@ -61,11 +64,12 @@ impl<L: Lit> Watched<L> {
         &self.trail
     }
 
-    /// Lends the clauses.
+    /// Lends the clauses. The literals of each are distinct, and of variables that there are.
     #[inline]
     pub fn arena(&self) -> &Arena<L>
         ensures value { result.now ≡ self.now.clauses }
         ensures inside { (clause place : ℕ) → Contains (slice_index_or (placed L.table_place self.now.clauses) clause []) place → place < 2 * self.now.trail.variables }
+        ensures distinct { (clause : ℕ) → IsDistinct (λ x y. x == y) (slice_index_or (placed L.table_place self.now.clauses) clause []) }
     {
         &self.arena
     }
@@ -105,7 +109,7 @@ impl<L: Lit> Watched<L> {
     /// Of two or more literals the first isn't false, and either the second isn't false too, or all but the first are
     /// false and the second has the highest level among them. Want of memory leaves clauses and trail as they were.
     pub fn add_clause(&mut self, literals: &[L]) -> Result<Added, AllocError>
-        requires few { length self.old.clauses < 2100000000 }
+        requires few { length self.old.clauses < MOST_CLAUSES }
         requires clause { CanAdd L.table_place self.old.trail (map L.table_place literals.now) }
         requires rest { waiting self.old.trail ≡ [] }
         ensures trail { self.new.trail ≡ self.old.trail }

@@ -8,14 +8,14 @@ returns-in_err-put_text c = puts-as _ _ _ _ _ (size_line (decimal c.args.variabl
 pub returns-in_err-put_id : goal.returns-in_err-put_id
 returns-in_err-put_id c =
     puts-as _ _ _ _ _ (size_line (decimal c.args.variables) (decimal c.args.clauses))
-    (failed_second _ _ _ _ _ _ c.from_residual-in_err-put_id.result c.in_ok-put_text.ensures c.from_residual-in_err-put_id.ensures.0 c.in_err-put_id.ensures)
+    (failed_second _ _ _ _ _ _ c.from_residual-in_err-put_id.result c.in_ok-put_text.ensures c.from_residual-in_err-put_id.ensures.0 c.in_err-put_id.ensures.text)
 
 pub returns-in_err-put_number : goal.returns-in_err-put_number
 returns-in_err-put_number c =
     puts-as _ _ _ _ _ (size_line (decimal c.args.variables) (decimal c.args.clauses))
-    (failed_third _ _ _ _ _ _ _ _ c.from_residual-in_err-put_number.result c.in_ok-put_text.ensures c.in_ok-put_id.ensures c.from_residual-in_err-put_number.ensures.0 c.in_err-put_number.ensures)
+    (failed_third _ _ _ _ _ _ _ _ c.from_residual-in_err-put_number.result c.in_ok-put_text.ensures c.in_ok-put_id.ensures.text c.from_residual-in_err-put_number.ensures.0 c.in_err-put_number.ensures)
 
 pub returns : goal.returns
 returns c =
     puts-as _ _ _ _ _ (size_line (decimal c.args.variables) (decimal c.args.clauses))
-    (four_put _ _ _ _ _ _ _ _ _ _ c.in_ok-put_text.ensures c.in_ok-put_id.ensures c.in_ok-put_number.ensures c.put_text-2.ensures)
+    (four_put _ _ _ _ _ _ _ _ _ _ c.in_ok-put_text.ensures c.in_ok-put_id.ensures.text c.in_ok-put_number.ensures c.put_text-2.ensures)

@@ -1,9 +1,14 @@
+use Rattle.std.proofs.lemmas.Result.{on_ok_weaker}
 use Rattle.lists_core.proofs.PutsFacts.{puts-then}
+use Rattle.chain_core.proofs.ReadsBack.{text_reads}
 use Rattle.chain_core.proofs.WriteFacts.{failed_first}
 use Rattle.chain_core.proofs.write.write_log.Goals as goal
 
-pub returns-in_err-put_header : goal.returns-in_err-put_header
-returns-in_err-put_header c = record { text = failed_first _ _ _ _ c.from_residual.result c.from_residual.ensures.0 c.in_err-put_header.ensures }
+pub returns-in_err-put_header-clause-text : goal.returns-in_err-put_header-clause-text
+returns-in_err-put_header-clause-text c = failed_first _ _ _ _ c.from_residual.result c.from_residual.ensures.0 c.in_err-put_header.ensures
 
-pub returns : goal.returns
-returns c = record { text = puts-then _ _ _ c.in_ok-put_header.ensures _ _ _ c.put_lemmas.ensures }
+pub returns-clause-text : goal.returns-clause-text
+returns-clause-text c = puts-then _ _ _ c.in_ok-put_header.ensures _ _ _ c.put_lemmas.ensures.text
+
+pub returns-clause-reads_back : goal.returns-clause-reads_back
+returns-clause-reads_back c = on_ok_weaker c.put_lemmas.result (text_reads c.args.encoding c.args.log.now) c.put_lemmas.ensures.writable

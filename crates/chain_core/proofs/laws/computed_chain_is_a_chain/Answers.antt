@@ -1,0 +1,5 @@
+use Rattle.chain_core.proofs.ChainFacts.{chains_computed, chains_succeed}
+use Rattle.chain_core.proofs.laws.computed_chain_is_a_chain.Goals as goal
+
+pub returns : goal.returns
+returns c = λ clauses set hints. (chains_computed clauses set hints, chains_succeed)
