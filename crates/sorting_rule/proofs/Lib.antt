@@ -1,2 +1,4 @@
 mod Worked
 pub mod Greatest
+pub mod Ordered
+pub mod Conflict
