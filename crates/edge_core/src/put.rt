@@ -1,4 +1,5 @@
 //! Writes all of a text to a sink.
+ghost use Rattle.std.specs.Prelude.{◌≡◌, []};
 ghost use Rattle.edge_core.specs.Outside.{Sends};
 
 use crate::{Failed, Sink};
@@ -8,7 +9,8 @@ use crate::{Failed, Sink};
 /// At `Failed` a part of the bytes went out.
 #[tactic(auto, using(crate::proofs::Sent::sent_none, crate::proofs::Sent::sent_more, crate::proofs::Sent::sent_kept, crate::proofs::Sent::sent_part, crate::proofs::Sent::sent_all))]
 pub fn put_all<O: Sink>(sink: &mut O, bytes: &[u8]) -> Result<(), Failed>
-    ensures { Sends (O.state sink.old) (O.state sink.new) bytes.now result }
+    ensures sends { Sends (O.state sink.old) (O.state sink.new) bytes.now result }
+    ensures silent { bytes.now ≡ [] → O.state sink.new ≡ O.state sink.old }
 {
     let mut rest = bytes;
     while !rest.is_empty() {

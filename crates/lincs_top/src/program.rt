@@ -2,6 +2,7 @@
 ghost use Rattle.std.specs.Prelude.{◌≡◌, ◌↔◌, ◌⊎◌, None};
 ghost use Rattle.std.specs.Option.{ForSome};
 ghost use Rattle.edge_core.specs.Outside.{Rose};
+ghost use Rattle.edge_core.specs.SafeShelf.{safe_shelf_state};
 ghost use Rattle.lincs_top.specs.Command.{texts, command_in, command_of};
 ghost use Rattle.lincs_top.specs.Obeys.{Obeys};
 ghost use Rattle.lincs_top.specs.Run.{MayOpen, IsBuilt, IsCourseStatus, CourseEnds, CourseWrites, MissesAFile, MemoryLeaves, OpensInOrder};
@@ -76,7 +77,8 @@ pub fn run<S: Shelf, O: Sink, E: Sink>(
     }
 }
 
-/// Over a shelf and an output that never fail, no fault is answered.
+/// Over a shelf and an output that never fail, a run ends as a course does, unless the words are no
+/// command or memory is refused. No fault is answered.
 pub fn run_safely<E: Sink>(
     alloc: Global,
     words: &[String],
@@ -86,6 +88,9 @@ pub fn run_safely<E: Sink>(
 ) -> Status
     ensures no_read_fault { result ≡ Status.ReadFault → ⊥ }
     ensures no_write_fault { result ≡ Status.WriteFault → ⊥ }
+    ensures usage { (result ≡ Status.Usage) ↔ (command_in (texts words.now) ≡ None) }
+    ensures complete { (result ≡ Status.Usage) ⊎ (result ≡ Status.NoMemory)
+        ⊎ CourseEnds (texts words.now) (safe_shelf_state shelf.old) (⟦<SafeSink as Sink>⟧.state out.old) (⟦<SafeSink as Sink>⟧.state out.new) result }
 {
     run(alloc, words, shelf, out, err)
 }

@@ -44,7 +44,7 @@ returns g c =
     let head : List ℕ = record_text (header_fields c.args.problem.now) in
     let made : c.put_header.new.out.items ≡ c.new-line.result.items ++ head = was_put c.new-line.result.items c.put_header.new.out.items head c.put_header.result c.put_header.ensures.text (sym c.is_err.ensures.value ∙ c.if-is_err.false) in
     let line : c.deref.result.now ≡ head = cc (c.deref.ensures.value, c.new-line.ensures.items) in
-    let went : Went (g.O.Sink.state c.args.out.now) (g.O.Sink.state c.put_all.new.sink) c.deref.result.now = was_sent _ _ _ _ c.put_all.ensures (sym c.is_err-2.ensures.value ∙ c.if-is_err-2.false) in
+    let went : Went (g.O.Sink.state c.args.out.now) (g.O.Sink.state c.put_all.new.sink) c.deref.result.now = was_sent _ _ _ _ c.put_all.ensures.sends (sym c.is_err-2.ensures.value ∙ c.if-is_err-2.false) in
     after_header (rows_left c.args.problem.now c.args.table) head _ _ _ _ c.put_rows.result (rw line at went) c.put_rows.ensures
 
 pub returns-then-is_err-2 : goal.returns-then-is_err-2
@@ -54,5 +54,5 @@ returns-then-is_err-2 g c =
     let made : c.put_header.new.out.items ≡ c.new-line.result.items ++ head = was_put c.new-line.result.items c.put_header.new.out.items head c.put_header.result c.put_header.ensures.text (sym c.is_err.ensures.value ∙ c.if-is_err.false) in
     let line : c.deref.result.now ≡ head = cc (c.deref.ensures.value, c.new-line.ensures.items) in
     let cut : Rose (g.O.Sink.state c.args.out.now).faults (g.O.Sink.state c.put_all.new.sink).faults × AppendsPart (g.O.Sink.state c.args.out.now).written (g.O.Sink.state c.put_all.new.sink).written head =
-    was_cut _ _ head c.put_all.result (rw line at c.put_all.ensures) (sym c.is_err-2.ensures.value ∙ c.if-is_err-2.true) in
+    was_cut _ _ head c.put_all.result (rw line at c.put_all.ensures.sends) (sym c.is_err-2.ensures.value ∙ c.if-is_err-2.true) in
     (cut.0, part_front (g.O.Sink.state c.args.out.now).written (g.O.Sink.state c.put_all.new.sink).written head tail cut.1)
