@@ -1,5 +1,5 @@
 //! Worked rows of `classify`.
-use crate::session::{MODEL, PROBLEM, ends_with};
+use crate::session::{MODEL, PROBLEM, PROBLEM_OF_THREE, ends_with};
 use lincs_top::Status;
 use std::test::Fail;
 
@@ -123,19 +123,6 @@ sufficient_coalitions:
 fn the_greatest_boundary_decides_though_a_lower_one_is_not_reached(
     rt: HostRuntime,
 ) -> Result<(), Fail> {
-    let problem = "kind: classification-problem
-format_version: 1
-criteria:
-  - name: Speed
-    value_type: integer
-    preference_direction: increasing
-    min_value: 0
-    max_value: 10
-ordered_categories:
-  - name: Low
-  - name: Mid
-  - name: High
-";
     let model = "kind: ncs-classification-model
 format_version: 1
 accepted_values:
@@ -151,7 +138,90 @@ sufficient_coalitions:
     ends_with(
         &rt,
         rt.alloc(),
-        (problem, model, "name,Speed\na,0\n"),
+        (PROBLEM_OF_THREE, model, "name,Speed\na,0\n"),
         (Status::Done, want),
+    )
+}
+
+#[test]
+fn an_alias_stands_for_the_coalitions_of_another_boundary(rt: HostRuntime) -> Result<(), Fail> {
+    let model = "kind: ncs-classification-model
+format_version: 1
+accepted_values:
+  - kind: thresholds
+    thresholds: [3, 7]
+sufficient_coalitions:
+  - &coalitions
+    kind: roots
+    upset_roots: [[0]]
+  - *coalitions
+";
+    let want = "name,Speed,category\na,2,Low\nb,3,Mid\nc,7,High\n";
+    ends_with(
+        &rt,
+        rt.alloc(),
+        (PROBLEM_OF_THREE, model, "name,Speed\na,2\nb,3\nc,7\n"),
+        (Status::Done, want),
+    )
+}
+
+#[test]
+fn files_as_people_write_them_are_read(rt: HostRuntime) -> Result<(), Fail> {
+    let problem = "# by hand\r
+---\r
+kind: 'classification-problem'
+format_version: \"1\"
+criteria:
+- name: \"Speed\"   # in knots
+  value_type: integer
+  preference_direction: increasing
+  min_value: 0
+  max_value: 10
+
+ordered_categories:
+- name: Bad
+- name: 'Good'
+";
+    let model = "kind: ncs-classification-model
+format_version: 1
+accepted_values:
+- kind: thresholds
+  thresholds: [
+    7,  # the least that is good
+    ]
+sufficient_coalitions:
+- &all
+  kind: roots
+  upset_roots: [[0]]
+";
+    let table = "name,Speed\na,3\nb,7\n";
+    ends_with(
+        &rt,
+        rt.alloc(),
+        (problem, model, table),
+        (Status::Done, "name,Speed,category\na,3,Bad\nb,7,Good\n"),
+    )
+}
+
+#[test]
+fn two_equal_keys_are_refused(rt: HostRuntime) -> Result<(), Fail> {
+    let problem = "kind: classification-problem
+kind: classification-problem
+format_version: 1
+criteria:
+  - name: Speed
+    value_type: integer
+    preference_direction: increasing
+    min_value: 0
+    max_value: 10
+ordered_categories:
+  - name: Bad
+  - name: Good
+";
+    ends_with(
+        &rt,
+        rt.alloc(),
+        (problem, MODEL, "name,Speed\na,3\n"),
+        (Status::Refused, ""),
     )
 }

@@ -19,6 +19,21 @@ ordered_categories:
   - name: Good
 ";
 
+/// The same with three categories.
+pub const PROBLEM_OF_THREE: &str = "kind: classification-problem
+format_version: 1
+criteria:
+  - name: Speed
+    value_type: integer
+    preference_direction: increasing
+    min_value: 0
+    max_value: 10
+ordered_categories:
+  - name: Low
+  - name: Mid
+  - name: High
+";
+
 /// From 7 on a row is good.
 pub const MODEL: &str = "kind: ncs-classification-model
 format_version: 1
