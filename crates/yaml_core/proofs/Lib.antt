@@ -10,7 +10,6 @@ pub mod WrittenLemmas
 pub mod WrittenTreeLemmas
 pub mod WrittenExamples
 pub mod InlineLemmas
-pub mod RestLemmas
 pub mod Walks
 pub mod MeasureLemmas
 pub mod KeptLemmas

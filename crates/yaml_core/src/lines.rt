@@ -9,7 +9,7 @@ ghost use Rattle.yaml_core.specs.Tokens as spec;
 use crate::bytes::is_blank_at;
 use crate::fault::YamlFault;
 use crate::lexer::tokens_of;
-use crate::token::Line;
+use crate::line::Line;
 use std::alloc::{AllocError, Global};
 
 fn is_spaces_or_comment(bytes: &[u8]) -> bool

@@ -5,9 +5,10 @@ ghost use Rattle.yaml_core.specs.Stack.{GivesWith};
 
 use crate::entries::Entries;
 use crate::fault::YamlFault;
+use crate::line::Line;
 use crate::size::MOST_NODES;
 use crate::text::Text;
-use crate::token::{Line, Placed, Token};
+use crate::token::{Placed, Token};
 use crate::value::Value;
 use indexmap::IndexMap;
 use std::alloc::{AllocError, Global};

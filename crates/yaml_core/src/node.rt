@@ -22,7 +22,7 @@ pub enum Node {
     Quoted(Text),
     /// The items of a sequence.
     List(Nodes),
-    /// The entries of a mapping, in the order of the text, no two with one key.
+    /// The entries of a mapping, in the order of the text; in a tree that was read no two have one key.
     Map(Pairs),
     /// `null`, `Null`, `NULL`, `~`, or no value at all.
     Null,
