@@ -207,5 +207,5 @@ first-low : (d : ℕ) (outcome : Option (Measured × Names)) → IsLow d height 
 first-low d None h m e = absurd (cc)
 first-low d (Some p) h m e = let same : p.0 ≡ m = cc in rw (← same) h
 
-pub tree-height : (ls : List Line) (m : Measured) → tree ls ≡ Some m → m.height ≤ 64
+pub tree-height : (ls : List Line) (m : Measured) → tree ls ≡ Some m → m.height ≤ max_levels
 tree-height ls m e = first-low max_levels (block max_levels ls []) ((block-most max_levels ls).low []) m e

@@ -10,7 +10,7 @@ use Rattle.yaml_core.specs.Measured.{Measured, Entry, pair, pair_of, leaf, list_
 use Rattle.yaml_core.specs.Size.{node_count}
 use Rattle.yaml_core.specs.Keys.{are_distinct}
 use Rattle.yaml_core.specs.Entries.{Held, entry_of}
-use Rattle.yaml_core.specs.Kept.{IsKept, KeepsMore, KeepsNode, KeepsNodes, IsSound, AreSound, count_of, levels_up_to, nodes_up_to}
+use Rattle.yaml_core.specs.Kept.{IsKept, KeepsMore, KeepsNode, KeepsNodes, IsSound, AreSound, count_of, levels_up_to, nodes_up_to, last_u8, last_u32}
 use Rattle.yaml_core.proofs.MeasureLemmas.{count-Null, count-Scalar, count-Quoted, count-list, count-map, values_of, IsSound-Null, IsSound-Scalar, IsSound-Quoted, IsSound-list, IsSound-map}
 
 -- ---- leaves
@@ -38,20 +38,20 @@ more-up_to : (limit n k : ℕ) → 1 ≤ limit → n ≡ min k limit → min (n 
 more-up_to limit n k some e = omega arith
 
 pub keeps-list : {h c : ℕ} (held : Option (List Node)) (ms : List Measured) → KeepsNodes held h c (map (λ m. m.node) ms) ms
-    → KeepsNode (option_map (λ ns. node.List ns) held) (min (h + 1) 255) (min (c + 1) 4294967295) (list_node ms)
+    → KeepsNode (option_map (λ ns. node.List ns) held) (min (h + 1) last_u8) (min (c + 1) last_u32) (list_node ms)
 keeps-list {h} {c} held ms k = record {
   node = IsKept-map (λ ns. node.List ns) held (map (λ m. m.node) ms) k.all;
-  levels = more-up_to 255 h (highest ms) (omega arith) k.levels;
-  nodes = more-up_to 4294967295 c (count_of ms) (omega arith) k.nodes ∙ ap nodes_up_to (sym (count-list ms));
+  levels = more-up_to last_u8 h (highest ms) (omega arith) k.levels;
+  nodes = more-up_to last_u32 c (count_of ms) (omega arith) k.nodes ∙ ap nodes_up_to (sym (count-list ms));
   sound = IsSound-list ms k.sound;
 }
 
 pub keeps-map : {h c : ℕ} (held : Option (List Pair)) (es : List Entry) → KeepsNodes held h c (map pair_of es) (values_of es) → are_distinct (map (λ e. e.0) es) ≡ true
-    → KeepsNode (option_map (λ ps. node.Map ps) held) (min (h + 1) 255) (min (c + 1) 4294967295) (map_node es)
+    → KeepsNode (option_map (λ ps. node.Map ps) held) (min (h + 1) last_u8) (min (c + 1) last_u32) (map_node es)
 keeps-map {h} {c} held es k distinct = record {
   node = IsKept-map (λ ps. node.Map ps) held (map pair_of es) k.all;
-  levels = more-up_to 255 h (highest (values_of es)) (omega arith) k.levels;
-  nodes = more-up_to 4294967295 c (count_of (values_of es)) (omega arith) k.nodes ∙ ap nodes_up_to (sym (count-map es));
+  levels = more-up_to last_u8 h (highest (values_of es)) (omega arith) k.levels;
+  nodes = more-up_to last_u32 c (count_of (values_of es)) (omega arith) k.nodes ∙ ap nodes_up_to (sym (count-map es));
   sound = IsSound-map es k.sound distinct;
 }
 
@@ -86,24 +86,24 @@ sum-up_to limit c d m n e f = omega arith
 
 pub keeps-push : {A : Type 0} {h c k d : ℕ} (held after : Option (List A)) (more : Option A) (whole : List A) (one : A) (ms : List Measured) (m : Measured)
     → KeepsNodes held h c whole ms → IsKept more one → k ≡ levels_up_to m.height → d ≡ nodes_up_to (node_count m.node) → IsSound m → KeepsMore held more after
-    → KeepsNodes after (max h k) (min (d + c) 4294967295) (whole ++ one ∷ []) (ms ++ m ∷ [])
+    → KeepsNodes after (max h k) (min (d + c) last_u32) (whole ++ one ∷ []) (ms ++ m ∷ [])
 keeps-push {h = h} {c = c} {k = k} {d = d} held after more whole one ms m before kept levels nodes sound keeps = record {
   all = kept-more held after more whole one before.all kept keeps;
-  levels = max-up_to 255 h k (highest ms) m.height before.levels levels ∙ ap levels_up_to (sym (highest-push ms m));
-  nodes = sum-up_to 4294967295 c d (count_of ms) (node_count m.node) before.nodes nodes ∙ ap nodes_up_to (sym (count-push ms m));
+  levels = max-up_to last_u8 h k (highest ms) m.height before.levels levels ∙ ap levels_up_to (sym (highest-push ms m));
+  nodes = sum-up_to last_u32 c d (count_of ms) (node_count m.node) before.nodes nodes ∙ ap nodes_up_to (sym (count-push ms m));
   sound = AreSound-push ms m before.sound sound;
 }
 
 pub keeps-item : {h c k d : ℕ} (held after : Option (List Node)) (more : Option Node) (ms : List Measured) (m : Measured)
     → KeepsNodes held h c (map (λ n. n.node) ms) ms → KeepsNode more k d m → KeepsMore held more after
-    → KeepsNodes after (max h k) (min (d + c) 4294967295) (map (λ n. n.node) (ms ++ m ∷ [])) (ms ++ m ∷ [])
+    → KeepsNodes after (max h k) (min (d + c) last_u32) (map (λ n. n.node) (ms ++ m ∷ [])) (ms ++ m ∷ [])
 keeps-item held after more ms m before kept keeps =
     rw (map-append (λ (n : Measured). n.node) ms (m ∷ []))
     (keeps-push held after more (map (λ n. n.node) ms) m.node ms m before kept.node kept.levels kept.nodes kept.sound keeps)
 
 keeps-entry : {h c k d : ℕ} (held after : Option (List Pair)) (more : Option Node) (es : List Entry) (e : Entry)
     → KeepsNodes held h c (map pair_of es) (values_of es) → KeepsNode more k d e.1 → KeepsMore held (option_map (λ n. pair e.0 n) more) after
-    → KeepsNodes after (max h k) (min (d + c) 4294967295) (map pair_of (es ++ e ∷ [])) (values_of (es ++ e ∷ []))
+    → KeepsNodes after (max h k) (min (d + c) last_u32) (map pair_of (es ++ e ∷ [])) (values_of (es ++ e ∷ []))
 keeps-entry held after more es e before kept keeps =
     rw (map-append pair_of es (e ∷ []), map-append (λ (x : Entry). x.1) es (e ∷ []))
     (keeps-push held after (option_map (λ n. pair e.0 n) more) (map pair_of es) (pair_of e) (values_of es) e.1 before
@@ -112,6 +112,6 @@ keeps-entry held after more es e before kept keeps =
 pub keeps-held : {h c k d : ℕ} (held after : Option (List Pair)) (more : Option Node) (done : List Held) (e : Held)
     → KeepsNodes held h c (map pair_of (map entry_of done)) (values_of (map entry_of done)) → KeepsNode more k d e.1
     → KeepsMore held (option_map (λ n. pair (string_bytes e.0) n) more) after
-    → KeepsNodes after (max h k) (min (d + c) 4294967295) (map pair_of (map entry_of (done ++ e ∷ []))) (values_of (map entry_of (done ++ e ∷ [])))
+    → KeepsNodes after (max h k) (min (d + c) last_u32) (map pair_of (map entry_of (done ++ e ∷ []))) (values_of (map entry_of (done ++ e ∷ [])))
 keeps-held held after more done e before kept keeps =
     rw (map-append entry_of done (e ∷ [])) (keeps-entry held after more (map entry_of done) (entry_of e) before kept keeps)

@@ -17,4 +17,5 @@ pub mod EntriesLemmas
 pub mod LineLemmas
 pub mod ContextLemmas
 pub mod StackLemmas
+pub mod TextLemmas
 pub mod Examples

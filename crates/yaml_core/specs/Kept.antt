@@ -1,5 +1,5 @@
 -- What is kept of nodes while they are built.
-use Rattle.std.specs.Prelude.{◌≡◌, ℕ, min, List, [], ◌∷◌, ◌++◌, map, sum, Option, Some, None}
+use Rattle.std.specs.Prelude.{◌≡◌, ℕ, ◌-◌, ◌^◌, min, List, [], ◌∷◌, ◌++◌, map, sum, Option, Some, None}
 use Rattle.yaml_core.specs.declared.node.Node.{Node}
 use Rattle.yaml_core.specs.Measured.{Measured, highest}
 use Rattle.yaml_core.specs.Size.{node_count, node_height}
@@ -16,13 +16,20 @@ KeepsMore all more None = Unit {0}
 KeepsMore (Some before) (Some a) (Some after) = after ≡ before ++ a ∷ []
 KeepsMore all more (Some after) = ⊥
 
--- a number of levels that stands still at 255
-abbrev pub levels_up_to : ℕ → ℕ
-levels_up_to n = min n 255
+-- the last numbers of 8 and of 32 bits
+abbrev pub last_u8 : ℕ
+last_u8 = 2 ^ 8 - 1
 
--- a number of nodes that stands still at the last 32-bit number
+abbrev pub last_u32 : ℕ
+last_u32 = 2 ^ 32 - 1
+
+-- a number of levels, which stands still at its last value
+abbrev pub levels_up_to : ℕ → ℕ
+levels_up_to n = min n last_u8
+
+-- a number of nodes, which stands still at its last value
 abbrev pub nodes_up_to : ℕ → ℕ
-nodes_up_to n = min n 4294967295
+nodes_up_to n = min n last_u32
 
 -- how many nodes these have
 abbrev pub count_of : List Measured → ℕ

@@ -30,6 +30,7 @@ impl Model for Line {
 }
 
 impl Line {
+    /// No token. Takes no memory.
     pub fn new(alloc: Global) -> Self
         ensures { result ≡ [] }
     {
@@ -39,6 +40,7 @@ impl Line {
         }
     }
 
+    /// The tokens that are left.
     pub fn as_slice(&self) -> &[Placed]
         ensures { result.now ≡ self.now }
     {
@@ -52,12 +54,14 @@ impl Line {
         self.tokens.len() - self.taken
     }
 
+    /// Whether none is left.
     pub fn is_empty(&self) -> bool
         ensures { IsTrue result ↔ (self.now ≡ []) }
     {
         self.len() == 0
     }
 
+    /// Puts a token at the end.
     pub fn push(&mut self, token: Placed) -> Result<(), AllocError>
         ensures ok { OnOk result (self.new ≡ self.old ++ token ∷ []) }
         ensures err { OnErr result (self.new ≡ self.old) }

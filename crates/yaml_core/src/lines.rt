@@ -1,8 +1,8 @@
 //! From a text to the tokens of its lines.
-ghost use Rattle.std.specs.Prelude.{◌≡◌, IfOk, All, map, true};
+ghost use Rattle.std.specs.Prelude.{◌≡◌, ◌∷◌, IfOk, IfSome, map};
 ghost use Rattle.std.specs.List.{list_any};
 ghost use Rattle.std.specs.Str.Lines.{lines};
-ghost use Rattle.yaml_core.specs.Lexer.{GivesLines};
+ghost use Rattle.yaml_core.specs.Lexer.{GivesLine};
 ghost use Rattle.yaml_core.specs.Stack.{Gives, IsRising};
 ghost use Rattle.yaml_core.specs.Tokens as spec;
 
@@ -12,6 +12,7 @@ use crate::lexer::tokens_of;
 use crate::line::Line;
 use std::alloc::{AllocError, Global};
 
+/// Whether nothing but spaces and a comment stands there.
 fn is_spaces_or_comment(bytes: &[u8]) -> bool
     ensures { result ≡ spec.is_spaces_or_comment bytes.now }
 {
@@ -69,29 +70,6 @@ fn is_kept(is_first: bool, line: &[u8]) -> Result<bool, YamlFault>
     Ok(true)
 }
 
-/// The tokens of each line that has any.
-fn lines_tokens(alloc: Global, lines: &[&str]) -> Result<Vec<Line>, YamlFault>
-    ensures tokens { GivesLines result (spec.lines_tokens true 0 (map (λ x. x.now) lines.now)) }
-    ensures rising { IfOk result (λ v. All IsRising v.items) }
-{
-    let mut all = Vec::new(alloc);
-    let mut is_first = true;
-    let mut depth = 0;
-    for line in lines {
-        let (tokens, after) = line_tokens(alloc, depth, line)?;
-        depth = after;
-        if tokens.is_empty() {
-            continue;
-        }
-        let kept = is_kept(is_first, line.as_bytes())?;
-        is_first = false;
-        if kept {
-            all.push(tokens)?;
-        }
-    }
-    Ok(all)
-}
-
 /// The tokens of a line without control characters, and the bracket depth at its end.
 fn line_tokens(alloc: Global, depth: usize, line: &str) -> Result<(Line, usize), YamlFault>
     ensures tokens { Gives result (spec.line_tokens depth line.now) }
@@ -103,18 +81,14 @@ fn line_tokens(alloc: Global, depth: usize, line: &str) -> Result<(Line, usize),
     tokens_of(alloc, depth, line)
 }
 
-fn parts(alloc: Global, text: &str) -> Result<Vec<&str>, AllocError>
-    ensures { IfOk result (λ v. map (λ x. x.now) v.items ≡ lines text.now) }
-{
-    text.lines().collect(alloc)
-}
-
+/// Whether a byte may stand nowhere in a line.
 fn is_refused(b: u8) -> bool
     ensures { result ≡ spec.is_refused b }
 {
     (b < 32 && b != b'\t') || b == 127
 }
 
+/// Whether some byte may stand nowhere in a line.
 fn has_refused(bytes: &[u8]) -> bool
     ensures { result ≡ list_any spec.is_refused bytes.now }
 {
@@ -132,7 +106,7 @@ fn has_mark(bytes: &[u8]) -> bool
 }
 
 /// The text without a byte order mark at its front.
-fn without_mark(text: &str) -> &str
+pub fn without_mark(text: &str) -> &str
     ensures { result.now ≡ spec.without_mark text.now }
 {
     if has_mark(text.as_bytes()) {
@@ -142,11 +116,45 @@ fn without_mark(text: &str) -> &str
     }
 }
 
-/// The tokens of each line of a text that has any.
-pub fn text_tokens(alloc: Global, text: &str) -> Result<Vec<Line>, YamlFault>
-    ensures tokens { GivesLines result (spec.text_tokens text.now) }
-    ensures rising { IfOk result (λ v. All IsRising v.items) }
+/// The lines of a text, without their ends.
+pub fn lines_of(alloc: Global, text: &str) -> Result<Vec<&str>, AllocError>
+    ensures { IfOk result (λ v. map (λ x. x.now) v.items ≡ lines text.now) }
 {
-    let lines = parts(alloc, without_mark(text))?;
-    lines_tokens(alloc, lines.as_slice())
+    text.lines().collect(alloc)
+}
+
+/// How far the lines of a text were read.
+#[derive(Clone, Copy)]
+pub struct Reached {
+    /// No line with tokens came before.
+    pub is_first: bool,
+    /// The bracket depth.
+    pub depth: usize,
+}
+
+/// The tokens of the next line, where it has any and isn't the start of a document, and how far the lines
+/// were read then.
+pub fn next_tokens(
+    alloc: Global,
+    reached: Reached,
+    line: &str,
+) -> Result<(Option<Line>, Reached), YamlFault>
+    ensures tokens { GivesLine result (λ ls. spec.lines_tokens reached.is_first reached.depth (line.now ∷ ls)) }
+    ensures rising { IfOk result (λ p. IfSome p.0 IsRising) }
+{
+    let Reached { is_first, depth } = reached;
+    let (tokens, depth) = line_tokens(alloc, depth, line)?;
+    if tokens.is_empty() {
+        return Ok((None, Reached { is_first, depth }));
+    }
+    let is_kept = is_kept(is_first, line.as_bytes())?;
+    let reached = Reached {
+        is_first: false,
+        depth,
+    };
+    if is_kept {
+        Ok((Some(tokens), reached))
+    } else {
+        Ok((None, reached))
+    }
 }

@@ -14,6 +14,7 @@ pub enum NameKind {
     Alias,
 }
 
+/// Whether a byte may stand in a name.
 fn is_name(b: u8) -> bool
     ensures { result ≡ spec.is_name b }
 {

@@ -2,10 +2,11 @@
 ghost use Rattle.std.specs.Prelude.{◌≡◌, ◌≤◌, [], IfOk};
 ghost use Rattle.yaml_core.specs.Reading.{naming, named_as, node_named, gives};
 ghost use Rattle.yaml_core.specs.Stack.{GivesWith};
+ghost use Rattle.yaml_core.specs.Tree.{max_levels};
 
 use crate::entries::Entries;
 use crate::fault::YamlFault;
-use crate::line::Line;
+use crate::lines::{Reached, next_tokens};
 use crate::size::MOST_NODES;
 use crate::text::Text;
 use crate::token::{Placed, Token};
@@ -61,11 +62,25 @@ fn add_uses(
     Ok(())
 }
 
-/// How many aliases in the lines have a name, by the name.
-pub fn uses_of_names(alloc: Global, lines: &[Line]) -> Result<IndexMap<String, u32>, AllocError> {
+/// How many aliases in the text have a name, by the name, up to the first line that is refused. A text without
+/// a `*` has no alias, and isn't read for them.
+pub fn uses_of_names(alloc: Global, text: &str) -> Result<IndexMap<String, u32>, AllocError> {
     let mut uses = IndexMap::new(alloc);
-    for line in lines {
-        add_uses(alloc, &mut uses, line.as_slice())?;
+    if !text.contains('*') {
+        return Ok(uses);
+    }
+    let mut reached = Reached {
+        is_first: true,
+        depth: 0,
+    };
+    for line in text.lines() {
+        let Ok((tokens, after)) = next_tokens(alloc, reached, line) else {
+            return Ok(uses);
+        };
+        reached = after;
+        if let Some(tokens) = tokens {
+            add_uses(alloc, &mut uses, tokens.as_slice())?;
+        }
     }
     Ok(uses)
 }
@@ -130,7 +145,7 @@ impl Names {
     /// The value that an alias stands for; `Form` where no node has the name, or where it has more
     /// levels than are left.
     pub fn get(&self, alloc: Global, levels: usize, name: &str) -> Result<Value, YamlFault>
-        requires { levels ≤ 64 }
+        requires { levels ≤ max_levels }
         ensures { GivesWith result self.now (node_named levels name.now self.now) }
     {
         let Some(value) = self.named.get(name) else {

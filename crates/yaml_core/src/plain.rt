@@ -9,6 +9,7 @@ use crate::text::Text;
 use crate::token::Token;
 use std::alloc::Global;
 
+/// Whether no plain scalar may begin with the byte, whatever follows it.
 fn is_indicator(b: u8) -> bool
     ensures { result ≡ spec.is_indicator b }
 {
@@ -44,6 +45,7 @@ fn ends_plain(depth: usize, b: u8, bytes: &[u8], at: usize) -> bool
     }
 }
 
+/// Whether no plain scalar may hold the byte `b`, which the bytes from `at` on follow.
 fn breaks_plain(depth: usize, b: u8, bytes: &[u8], at: usize) -> bool
     ensures { result ≡ spec.breaks_plain depth b (drop at bytes.now) }
 {
@@ -52,6 +54,7 @@ fn breaks_plain(depth: usize, b: u8, bytes: &[u8], at: usize) -> bool
             && (b == b'{' || b == b'}' || (b == b':' && is_separated_at(depth, bytes, at))))
 }
 
+/// Whether a plain scalar may begin with the byte `b`, which the bytes from `at` on follow.
 pub fn begins_plain(depth: usize, b: u8, bytes: &[u8], at: usize) -> bool
     ensures { result ≡ spec.begins_plain depth b (drop at bytes.now) }
 {

@@ -21,6 +21,7 @@ fn next_quote(bytes: &[u8]) -> Option<usize>
     None
 }
 
+/// Whether a single quote comes first.
 fn is_quote_first(bytes: &[u8]) -> bool
     ensures { result ≡ spec.is_quote_first bytes.now }
 {
@@ -69,6 +70,7 @@ fn next_mark(bytes: &[u8]) -> Option<usize>
     None
 }
 
+/// The value of a hexadecimal digit.
 fn hex_value(b: u8) -> Option<u32>
     ensures value { result ≡ spec.hex_value b }
     ensures below { IfSome result (λ h. h < 16) }

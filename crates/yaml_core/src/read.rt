@@ -8,7 +8,8 @@ ghost use Rattle.yaml_core.specs.Stack.{Gives};
 
 use crate::blocks::tree_of;
 use crate::fault::YamlFault;
-use crate::lines::text_tokens;
+use crate::lines::{lines_of, without_mark};
+use crate::names::uses_of_names;
 use crate::node::Node;
 use crate::value::Value;
 use std::alloc::Global;
@@ -21,8 +22,10 @@ pub const MOST_BYTES: usize = 67_108_864;
 fn tree_of_text(alloc: Global, text: &str) -> Result<Value, YamlFault>
     ensures { Gives result (text_measured text.now) }
 {
-    let lines = text_tokens(alloc, text)?;
-    tree_of(alloc, lines)
+    let text = without_mark(text);
+    let uses = uses_of_names(alloc, text)?;
+    let lines = lines_of(alloc, text)?;
+    tree_of(alloc, uses, lines.as_slice())
 }
 
 /// The tree of a text, or the first of the faults that it has. The tree has at most 64 levels, and the

@@ -6,6 +6,7 @@ ghost use Rattle.yaml_core.specs.Keys.{are_distinct, HasDistinctKeys};
 ghost use Rattle.yaml_core.specs.Kept.{KeepsMore, KeepsNodes, nodes_up_to};
 ghost use Rattle.yaml_core.specs.Read.{AnswersNode, within_limit};
 ghost use Rattle.yaml_core.specs.Size.{node_count, node_height};
+ghost use Rattle.yaml_core.specs.Tree.{max_levels};
 
 use crate::copy::copy_of;
 use crate::entries::Entries;
@@ -217,7 +218,7 @@ impl Value {
 
     /// Whether the node has at most so many levels.
     pub fn fits(&self, levels: usize) -> bool
-        requires { levels ≤ 64 }
+        requires { levels ≤ max_levels }
         ensures { result ≡ nat_le self.now.height levels }
     {
         self.levels as usize <= levels
