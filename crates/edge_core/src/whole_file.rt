@@ -3,9 +3,10 @@ ghost use Rattle.std.specs.Prelude.{◌≡◌, ◌++◌, [], ◌∷◌, ◌<◌,
 ghost use Rattle.std.specs.Option.{ForSome};
 ghost use Rattle.edge_core.specs.Outside.{KeepsHeld, Rose, bytes_of};
 ghost use Rattle.edge_core.specs.Load.{LoadsAs};
+ghost use Rattle.edge_core.specs.declared.whole_file.LoadFault.TheVariants.{Read, NoMemory};
 
 use crate::{Failed, Shelf};
-use std::alloc::Global;
+use std::alloc::{AllocError, Global};
 use thiserror::Error;
 
 /// The most bytes that a file may have: 64 MiB.
@@ -27,6 +28,22 @@ pub enum LoadFault {
     /// There was no memory for its bytes.
     #[error("out of memory")]
     NoMemory,
+}
+
+impl From<Failed> for LoadFault {
+    ghost from_gives = { λ _ fault. fault ≡ Read };
+
+    fn from(_failed: Failed) -> LoadFault {
+        LoadFault::Read
+    }
+}
+
+impl From<AllocError> for LoadFault {
+    ghost from_gives = { λ _ fault. fault ≡ NoMemory };
+
+    fn from(_error: AllocError) -> LoadFault {
+        LoadFault::NoMemory
+    }
 }
 
 /// The bytes of a file, read to the first read that gives none.
@@ -52,23 +69,17 @@ pub fn load<S: Shelf>(alloc: Global, shelf: &mut S, name: &str) -> Result<Vec<u8
     ensures read { IsErrOf result LoadFault.Read → Rose (S.state shelf.old).faults (S.state shelf.new).faults }
     ensures missed { IsErrOf result LoadFault.Read → (S.state shelf.new).missed ≡ Some name.now }
 {
-    if shelf.open(name).is_err() {
-        return Err(LoadFault::Read);
-    }
+    shelf.open(name)?;
     let mut bytes = Vec::new(alloc);
     let mut piece = [0u8; PIECE];
     loop {
-        match shelf.read(&mut piece) {
-            Err(Failed) => return Err(LoadFault::Read),
-            Ok(0) => return Ok(bytes),
-            Ok(count) => {
-                if count > MOST_BYTES - bytes.len() {
-                    return Err(LoadFault::TooLong);
-                }
-                if bytes.extend_from_slice(&piece[..count]).is_err() {
-                    return Err(LoadFault::NoMemory);
-                }
-            }
+        let count = shelf.read(&mut piece)?;
+        if count == 0 {
+            return Ok(bytes);
         }
+        if count > MOST_BYTES - bytes.len() {
+            return Err(LoadFault::TooLong);
+        }
+        bytes.extend_from_slice(&piece[..count])?;
     }
 }
