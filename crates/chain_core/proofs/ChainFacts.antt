@@ -1,15 +1,11 @@
 -- The chain as a relation and as a computation are one.
 use Rattle.std.proofs.Common.{◌≡◌, ℕ, zero, suc, ◌<◌, ◌==◌, ◌||◌, ◌&&◌, not, Bool, true, false, cond, List, [], ◌∷◌, length, get_or, Option, Some, None, refl, sym, ◌∙◌, ap, arith, eq-eqb, subst, ◌⊎◌, inl, inr}
 use Rattle.std.specs.List.{list_any, list_all, All, Contains}
-use Rattle.std.proofs.lemmas.Bool.{false≢true}
+use Rattle.std.proofs.lemmas.Bool.{false≢true, and_parts, cases_Bool, or_right}
 use Rattle.std.proofs.lemmas.Bool.Decides.{eqb_tells}
 use Rattle.std.proofs.lemmas.List.Elements.{All-cons, All-nil, All-head, All-tail, All-contains}
 use Rattle.chain_core.specs.Literal.{negation}
 use Rattle.chain_core.specs.Chain.{clause_at, IsFalseUnder, IsOnlyOpen, Chains, ends, adds, is_false, open_literals, after_open, after_clause, chain_from}
-
-pub true_or_false : (b : Bool) → (b ≡ true) ⊎ (b ≡ false)
-true_or_false true = inl refl
-true_or_false false = inr refl
 
 pub Contains-first : {T : Type 0} (x : T) (xs : List T) → Contains (x ∷ xs) x
 Contains-first x xs = (zero, omega arith, refl)
@@ -33,16 +29,12 @@ contains_tested (x ∷ xs) y h =
       | inr other ↦ Contains-later x y xs (contains_tested xs y (sym (ap (λ b. b || list_any (λ z. z == y) xs) other.0) ∙ h))
     ]
 
-pub orb_right : (a b : Bool) → b ≡ true → (a || b) ≡ true
-orb_right true b h = refl
-orb_right false b h = h
-
 pub tested_contains : (xs : List ℕ) (y : ℕ) → Contains xs y → list_any (λ x. x == y) xs ≡ true
 tested_contains [] y h = absurd (Contains-none y h)
 tested_contains (x ∷ xs) y h =
     elim (Contains-cases x y xs h) [
       | inl same ↦ ap (λ b. b || list_any (λ z. z == y) xs) (eq-eqb x y same)
-      | inr later ↦ orb_right (x == y) (list_any (λ z. z == y) xs) (tested_contains xs y later)
+      | inr later ↦ or_right (x == y) (list_any (λ z. z == y) xs) (tested_contains xs y later)
     ]
 
 -- each literal of a clause is open or false
@@ -50,7 +42,7 @@ open_or_false : (set clause : List ℕ) → All (λ x. Contains (open_literals s
 open_or_false set [] = All-nil (λ x. Contains (open_literals set []) x ⊎ IsFalseUnder set x)
 open_or_false set (y ∷ clause) =
     let later = open_or_false set clause in
-    elim (true_or_false (is_false set y)) [
+    elim (cases_Bool (is_false set y)) [
       | inl out ↦ (let same : open_literals set (y ∷ clause) ≡ open_literals set clause = ap (λ b. cond (not b) (y ∷ open_literals set clause) (open_literals set clause)) out in
           let P : List ℕ → Type 0 = λ os. All (λ x. Contains os x ⊎ IsFalseUnder set x) (y ∷ clause) in
           subst P (sym same) (All-cons (λ x. Contains (open_literals set clause) x ⊎ IsFalseUnder set x) y clause (inr (contains_tested set (negation y) out)) later))
@@ -65,7 +57,7 @@ open_is : (set clause : List ℕ) (x : ℕ) → Contains (open_literals set clau
 open_is set [] x h = absurd (Contains-none x h)
 open_is set (y ∷ clause) x h =
     let P : List ℕ → Type 0 = λ os. Contains os x in
-    elim (true_or_false (is_false set y)) [
+    elim (cases_Bool (is_false set y)) [
       | inl out ↦ (let same : open_literals set (y ∷ clause) ≡ open_literals set clause = ap (λ b. cond (not b) (y ∷ open_literals set clause) (open_literals set clause)) out in
           let ih = open_is set clause x (subst P same h) in
           (Contains-later y x clause ih.0, ih.1))
@@ -76,14 +68,10 @@ open_is set (y ∷ clause) x h =
           ])
     ]
 
-pub both_true : (a b : Bool) → (a && b) ≡ true → (a ≡ true) × (b ≡ true)
-both_true true b h = (refl, h)
-both_true false b h = absurd (false≢true h)
-
 all_same : (l : ℕ) (xs : List ℕ) (x : ℕ) → list_all (λ y. y == l) xs ≡ true → Contains xs x → x ≡ l
 all_same l [] x all h = absurd (Contains-none x h)
 all_same l (y ∷ xs) x all h =
-    let parts = both_true (y == l) (list_all (λ z. z == l) xs) all in
+    let parts = and_parts (y == l) (list_all (λ z. z == l) xs) all in
     elim (Contains-cases y x xs h) [
       | inl here ↦ sym here ∙ (elim (eqb_tells y l) [ inl same ↦ same.1 | inr other ↦ absurd (false≢true (sym other.0 ∙ parts.0)) ])
       | inr later ↦ all_same l xs x parts.1 later
@@ -121,7 +109,7 @@ after_is : (known : List (List ℕ)) (set hints : List ℕ) (h : ℕ) → ((l : 
     → after_open os (λ l. chain_from known (l ∷ set) hints) ≡ true → Chains known set (h ∷ hints)
 after_is known set hints h more clause at [] is ok = ends at (none_open set clause is)
 after_is known set hints h more clause at (l ∷ ls) is ok =
-    let parts = both_true (list_all (λ x. x == l) ls) (chain_from known (l ∷ set) hints) ok in
+    let parts = and_parts (list_all (λ x. x == l) ls) (chain_from known (l ∷ set) hints) ok in
     adds at (one_open set clause l ls is parts.0) (more l parts.1)
 
 clause_is : (known : List (List ℕ)) (set hints : List ℕ) (h : ℕ) → ((l : ℕ) → chain_from known (l ∷ set) hints ≡ true → Chains known (l ∷ set) hints) → (o : Option (List ℕ)) → clause_at known h ≡ o

@@ -1,7 +1,7 @@
 -- A log without a fault is a refutation, and a refutation has no fault.
 use Rattle.std.proofs.Common.{◌≡◌, ℕ, zero, suc, ◌+◌, ◌<◌, ◌≤◌, ◌==◌, ◌||◌, nat_lt, nat_le, not, Bool, true, false, cond, List, [], ◌∷◌, ◌++◌, length, map, take, Option, Some, None, refl, sym, ◌∙◌, ap, arith, subst, ◌↔◌, IsTrue, inl, inr}
 use Rattle.std.specs.List.{list_any, All, slice_get}
-use Rattle.std.proofs.lemmas.Bool.{eqb-true, false≢true}
+use Rattle.std.proofs.lemmas.Bool.{eqb-true, false≢true, le-ltb, ltb-false, not-false, or_parts}
 use Rattle.std.proofs.lemmas.Bool.Decides.{nat_tests, eqb_tells}
 use Rattle.std.proofs.lemmas.List.{append-nil, append_assoc}
 use Rattle.std.proofs.lemmas.List.Elements.{All-cons, All-nil, All-head, All-tail}
@@ -24,37 +24,23 @@ cond_some : (b : Bool) (fault : CheckFault) → cond b None (Some fault) ≡ Non
 cond_some true fault h = refl
 cond_some false fault h = cc
 
-not_false : (b : Bool) → not b ≡ false → b ≡ true
-not_false true h = refl
-not_false false h = absurd (false≢true (sym h))
-
-or_false : (a b : Bool) → (a || b) ≡ false → (a ≡ false) × (b ≡ false)
-or_false true b h = absurd (false≢true (sym h))
-or_false false b h = (refl, h)
-
 -- a test that fails of each, and the fact that this stands for
-all_fail : (test : ℕ → Bool) (P : ℕ → Type 0) → ((x : ℕ) → test x ≡ false → P x) → (xs : List ℕ) → list_any test xs ≡ false → All P xs
+pub all_fail : (test : ℕ → Bool) (P : ℕ → Type 0) → ((x : ℕ) → test x ≡ false → P x) → (xs : List ℕ) → list_any test xs ≡ false → All P xs
 all_fail test P says [] none = All-nil P
 all_fail test P says (x ∷ xs) none =
-    let parts = or_false (test x) (list_any test xs) none in
+    let parts = or_parts (test x) (list_any test xs) none in
     All-cons P x xs (says x parts.0) (all_fail test P says xs parts.1)
 
-none_passes : (test : ℕ → Bool) (P : ℕ → Type 0) → ((x : ℕ) → P x → test x ≡ false) → (xs : List ℕ) → All P xs → list_any test xs ≡ false
+pub none_passes : (test : ℕ → Bool) (P : ℕ → Type 0) → ((x : ℕ) → P x → test x ≡ false) → (xs : List ℕ) → All P xs → list_any test xs ≡ false
 none_passes test P says [] all = refl
 none_passes test P says (x ∷ xs) all =
     ap (λ b. b || list_any test xs) (says x (All-head P x xs all)) ∙ none_passes test P says xs (All-tail P x xs all)
 
-hint_near : (id h : ℕ) → (h == 0 || nat_le id h) ≡ false → (1 ≤ h) × (h < id)
+pub hint_near : (id h : ℕ) → (h == 0 || nat_le id h) ≡ false → (1 ≤ h) × (h < id)
 hint_near id h e = grind (arith, nat_tests)
 
-near_hint : (id h : ℕ) → (1 ≤ h) × (h < id) → (h == 0 || nat_le id h) ≡ false
+pub near_hint : (id h : ℕ) → (1 ≤ h) × (h < id) → (h == 0 || nat_le id h) ≡ false
 near_hint id h e = grind (arith, nat_tests)
-
-low_variable : (variables v : ℕ) → nat_lt variables v ≡ false → v ≤ variables
-low_variable variables v e = grind (arith, nat_tests)
-
-variable_low : (variables v : ℕ) → v ≤ variables → nat_lt variables v ≡ false
-variable_low variables v e = grind (arith, nat_tests)
 
 -- a lemma has no fault exactly where it is good
 pub good_lemma : (variables : ℕ) (known : List (List ℕ)) (line : ℕ) (lemma : Lemma) → lemma_fault variables known line lemma ≡ None → IsGoodLemma variables known lemma
@@ -63,16 +49,16 @@ good_lemma variables known line lemma passes =
     let second = cond_none _ (Literal line) _ first.1 in
     let third = cond_none (list_any (λ h. h == 0 || nat_le lemma.id h) lemma.hints) (Hint line) _ second.1 in
     record {
-      id = eqb-true lemma.id (length known + 1) (not_false (lemma.id == length known + 1) first.0);
-      literals = all_fail (λ l. nat_lt variables (variable_of l)) (λ l. variable_of l ≤ variables) (λ l. low_variable variables (variable_of l)) lemma.literals second.0;
+      id = eqb-true lemma.id (length known + 1) (not-false (lemma.id == length known + 1) first.0);
+      literals = all_fail (λ l. nat_lt variables (variable_of l)) (λ l. variable_of l ≤ variables) (λ l. ltb-false variables (variable_of l)) lemma.literals second.0;
       hints = all_fail (λ h. h == 0 || nat_le lemma.id h) (λ h. (1 ≤ h) × (h < lemma.id)) (hint_near lemma.id) lemma.hints third.0;
       chain = chains_computed known (map negation lemma.literals) lemma.hints (cond_some (chain_succeeds known lemma.literals lemma.hints) (Chain line) third.1);
     }
 
-lemma_passes : (variables : ℕ) (known : List (List ℕ)) (line : ℕ) (lemma : Lemma) → IsGoodLemma variables known lemma → lemma_fault variables known line lemma ≡ None
+pub lemma_passes : (variables : ℕ) (known : List (List ℕ)) (line : ℕ) (lemma : Lemma) → IsGoodLemma variables known lemma → lemma_fault variables known line lemma ≡ None
 lemma_passes variables known line lemma good =
     fault_staged variables known line lemma false false true good.id
-    (none_passes (λ l. nat_lt variables (variable_of l)) (λ l. variable_of l ≤ variables) (λ l. variable_low variables (variable_of l)) lemma.literals good.literals)
+    (none_passes (λ l. nat_lt variables (variable_of l)) (λ l. variable_of l ≤ variables) (λ l. le-ltb variables (variable_of l)) lemma.literals good.literals)
     (none_passes (λ h. h == 0 || nat_le lemma.id h) (λ h. (1 ≤ h) × (h < lemma.id)) (near_hint lemma.id) lemma.hints good.hints)
     (chains_succeed good.chain)
 
@@ -90,30 +76,38 @@ none_known known log = append-nil known
 pub one_known : (known : List (List ℕ)) (first : Lemma) (log : List Lemma) (k : ℕ) → (known ++ first.literals ∷ []) ++ map (λ (x : Lemma). x.literals) (take k log) ≡ known ++ map (λ (x : Lemma). x.literals) (take (suc k) (first ∷ log))
 one_known known first log k = append_assoc known (first.literals ∷ []) (map (λ (x : Lemma). x.literals) (take k log))
 
+-- a first lemma that is good, and lemmas that are good after it
+pub good_first : (variables : ℕ) (known : List (List ℕ)) (first : Lemma) (log : List Lemma) → IsGoodLemma variables known first → GoodAfter variables (known ++ first.literals ∷ []) log → GoodAfter variables known (first ∷ log)
+good_first variables known first log here later zero lemma read =
+    let P : Lemma → Type 0 = λ x. IsGoodLemma variables (known ++ map (λ (x : Lemma). x.literals) (take 0 (first ∷ log))) x in
+    let Q : List (List ℕ) → Type 0 = λ clauses. IsGoodLemma variables clauses first in
+    subst P (same_Some first lemma read) (subst Q (sym (none_known known (first ∷ log))) here)
+good_first variables known first log here later (suc k) lemma read =
+    let Q : List (List ℕ) → Type 0 = λ clauses. IsGoodLemma variables clauses lemma in
+    subst Q (one_known known first log k) (later k lemma read)
+
+-- and the other way round
+pub first_good : (variables : ℕ) (known : List (List ℕ)) (first : Lemma) (log : List Lemma) → GoodAfter variables known (first ∷ log) → IsGoodLemma variables known first
+first_good variables known first log good =
+    let Q : List (List ℕ) → Type 0 = λ clauses. IsGoodLemma variables clauses first in
+    subst Q (none_known known (first ∷ log)) (good 0 first refl)
+
+pub rest_good : (variables : ℕ) (known : List (List ℕ)) (first : Lemma) (log : List Lemma) → GoodAfter variables known (first ∷ log) → GoodAfter variables (known ++ first.literals ∷ []) log
+rest_good variables known first log good k lemma read =
+    let R : List (List ℕ) → Type 0 = λ clauses. IsGoodLemma variables clauses lemma in
+    subst R (sym (one_known known first log k)) (good (suc k) lemma read)
+
 pub lemmas_good : (variables : ℕ) (known : List (List ℕ)) (line : ℕ) (log : List Lemma) → first_fault variables known line log ≡ None → GoodAfter variables known log
 lemmas_good variables known line [] passes = λ k lemma read. absurd (none-some lemma read)
 lemmas_good variables known line (first ∷ log) passes =
     let parts = or_else_none (lemma_fault variables known line first) (first_fault variables (known ++ first.literals ∷ []) (line + 1) log) passes in
-    split (good_lemma variables known line first parts.0) (lemmas_good variables (known ++ first.literals ∷ []) (line + 1) log parts.1)
-  where
-    split : IsGoodLemma variables known first → GoodAfter variables (known ++ first.literals ∷ []) log → GoodAfter variables known (first ∷ log)
-    split here later zero lemma read =
-        let P : Lemma → Type 0 = λ x. IsGoodLemma variables (known ++ map (λ (x : Lemma). x.literals) (take 0 (first ∷ log))) x in
-        let Q : List (List ℕ) → Type 0 = λ clauses. IsGoodLemma variables clauses first in
-        subst P (same_Some first lemma read) (subst Q (sym (none_known known (first ∷ log))) here)
-    split here later (suc k) lemma read =
-        let Q : List (List ℕ) → Type 0 = λ clauses. IsGoodLemma variables clauses lemma in
-        subst Q (one_known known first log k) (later k lemma read)
+    good_first variables known first log (good_lemma variables known line first parts.0) (lemmas_good variables (known ++ first.literals ∷ []) (line + 1) log parts.1)
 
-good_passes : (variables : ℕ) (known : List (List ℕ)) (line : ℕ) (log : List Lemma) → GoodAfter variables known log → first_fault variables known line log ≡ None
+pub good_passes : (variables : ℕ) (known : List (List ℕ)) (line : ℕ) (log : List Lemma) → GoodAfter variables known log → first_fault variables known line log ≡ None
 good_passes variables known line [] good = refl
 good_passes variables known line (first ∷ log) good =
-    let Q : List (List ℕ) → Type 0 = λ clauses. IsGoodLemma variables clauses first in
-    let here : lemma_fault variables known line first ≡ None = lemma_passes variables known line first (subst Q (none_known known (first ∷ log)) (good 0 first refl)) in
-    let later : first_fault variables (known ++ first.literals ∷ []) (line + 1) log ≡ None = good_passes variables (known ++ first.literals ∷ []) (line + 1) log (λ k lemma read.
-    let R : List (List ℕ) → Type 0 = λ clauses. IsGoodLemma variables clauses lemma in
-    subst R (sym (one_known known first log k)) (good (suc k) lemma read)) in
-    ap (λ f. or_else f (first_fault variables (known ++ first.literals ∷ []) (line + 1) log)) here ∙ later
+    ap (λ f. or_else f (first_fault variables (known ++ first.literals ∷ []) (line + 1) log)) (lemma_passes variables known line first (first_good variables known first log good))
+    ∙ good_passes variables (known ++ first.literals ∷ []) (line + 1) log (rest_good variables known first log good)
 
 -- an empty last lemma
 nil_counted : (xs : List ℕ) → (length xs == 0) ≡ true → xs ≡ []
@@ -130,7 +124,7 @@ end_appended [] last none = ap (λ xs. length xs == 0) none
 end_appended (x ∷ []) last none = ap (λ xs. length xs == 0) none
 end_appended (x ∷ y ∷ earlier) last none = end_appended (y ∷ earlier) last none
 
-tested_end : (log : List Lemma) → EndsEmpty log → ends_empty log ≡ true
+pub tested_end : (log : List Lemma) → EndsEmpty log → ends_empty log ≡ true
 tested_end log end = ap ends_empty end.1.1 ∙ end_appended end.0 end.1.0 end.1.2
 
 pub refutes : (formula : Cnf) (log : List Lemma) → first_fault formula.variables formula.clauses 2 log ≡ None → ends_empty log ≡ true → IsRefutation formula log

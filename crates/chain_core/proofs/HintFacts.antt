@@ -2,33 +2,28 @@
 use Rattle.std.proofs.Common.{◌≡◌, ◌≢◌, ℕ, ◌+◌, ◌<◌, ◌≤◌, ◌==◌, true, false, cond, List, [], ◌∷◌, ◌++◌, length, drop, Option, Some, None, refl, sym, ◌∙◌, ap, arith, eq-eqb, subst, inl, inr}
 use Rattle.std.specs.Prelude.{option_map}
 use Rattle.std.specs.List.{All}
+use Rattle.std.proofs.lemmas.Bool.{ne_eqb}
 use Rattle.std.proofs.lemmas.Bool.Decides.{eqb_tells}
-use Rattle.std.proofs.lemmas.List.{append-nil, append_assoc, drop-drop, length-drop}
+use Rattle.std.proofs.lemmas.List.{append_assoc, drop-drop, length-drop}
 use Rattle.std.proofs.lemmas.List.Elements.{All-cons, All-nil}
 use Rattle.chain_core.specs.Reading.{words_of, number_in, hints_in, hints_then}
-use Rattle.chain_core.specs.Front.{words_after, StartsWith, StartsWithOther}
-use Rattle.chain_core.proofs.NumberFacts.{split_some, after_end, after_space, no_test}
-
-is_zero : (v : ℕ) → v ≡ 0 → (v == 0) ≡ true
-is_zero v h = eq-eqb v 0 h
+use Rattle.chain_core.specs.Front.{words_after, StartsWith}
+use Rattle.chain_core.proofs.NumberFacts.{split_some, after_space}
 
 -- how the words of hints begin
 hints_at : (text : List ℕ) (v n : ℕ) → StartsWith number_in text v n → hints_in (words_of text) ≡ hints_then (Some v) (words_after n text) (hints_in (words_after n text))
 hints_at text v n starts = ap hints_in starts.words ∙ ap (λ o. hints_then o (words_after n text) (hints_in (words_after n text))) starts.is
 
-hints_other : (text : List ℕ) → StartsWithOther number_in text → hints_in (words_of text) ≡ None
-hints_other text other = ap hints_in other.1.1 ∙ ap (λ o. hints_then o other.1.0 (hints_in other.1.0)) other.1.2
-
 pub zero_then : (v : ℕ) (words : List (List ℕ)) (more : Option (List ℕ)) → v ≡ 0 → hints_then (Some v) words more ≡ cond (length words == 0) (Some []) None
-zero_then v words more is = ap (λ b. cond b (cond (length words == 0) (Some []) None) (option_map (λ hs. v ∷ hs) more)) (is_zero v is)
+zero_then v words more is = ap (λ b. cond b (cond (length words == 0) (Some []) None) (option_map (λ hs. v ∷ hs) more)) (eq-eqb v 0 is)
 
 pub one_then : (v : ℕ) (words : List (List ℕ)) (more : Option (List ℕ)) → v ≢ 0 → hints_then (Some v) words more ≡ option_map (λ hs. v ∷ hs) more
-one_then v words more other = ap (λ b. cond b (cond (length words == 0) (Some []) None) (option_map (λ hs. v ∷ hs) more)) (no_test v 0 other)
+one_then v words more other = ap (λ b. cond b (cond (length words == 0) (Some []) None) (option_map (λ hs. v ∷ hs) more)) (ne_eqb v 0 other)
 
 words_some : (text : List ℕ) → (length (words_of text) == 0) ≡ false
 words_some text =
     let parts = split_some (λ b. b == 32) text in
-    ap (λ ws. length ws == 0) parts.1.1 ∙ no_test (length (parts.0 ∷ parts.1.0)) 0 (λ e. absurd (omega (arith, e)))
+    ap (λ ws. length ws == 0) parts.1.1 ∙ ne_eqb (length (parts.0 ∷ parts.1.0)) 0 (λ e. absurd (omega (arith, e)))
 
 onto : (read : List ℕ) (v : ℕ) (more : Option (List ℕ)) → option_map (λ hs. read ++ hs) (option_map (λ hs. v ∷ hs) more) ≡ option_map (λ hs. (read ++ v ∷ []) ++ hs) more
 onto read v None = refl
@@ -39,28 +34,12 @@ pub next_text : (text : List ℕ) (at n : ℕ) → drop (n + 1) (drop at text) �
 next_text text at n = let same : at + (n + 1) ≡ at + n + 1 = omega arith in drop-drop (n + 1) at text ∙ ap (λ k. drop k text) same
 
 module _ (text : List ℕ) (at : ℕ) (read : List ℕ) (whole : Option (List ℕ)) (so_far : option_map (λ hs. read ++ hs) (hints_in (words_of (drop at text))) ≡ whole) where
-  pub hints_failed : StartsWithOther number_in (drop at text) → whole ≡ None
-  hints_failed other = sym so_far ∙ ap (option_map (λ hs. read ++ hs)) (hints_other (drop at text) other)
-
-  -- the `0` at the end of the line
-  pub hints_ended : (v n : ℕ) → StartsWith number_in (drop at text) v n → v ≡ 0 → at + n ≡ length text → whole ≡ Some read
-  hints_ended v n starts is end =
-      let past : length (drop at text) ≤ n = omega (arith, length-drop at text, starts.within) in
-      let empty = after_end n (drop at text) past in
-      sym so_far ∙ ap (option_map (λ hs. read ++ hs)) (hints_at (drop at text) v n starts ∙ zero_then v (words_after n (drop at text)) _ is ∙ ap (λ (ws : List (List ℕ)). cond (length ws == 0) (Some []) None) empty) ∙ ap Some (append-nil read)
-
   pub hints_go_on : (v n : ℕ) → at ≤ length text → StartsWith number_in (drop at text) v n → v ≡ 0 → at + n ≢ length text → whole ≡ None
   hints_go_on v n inside starts is open' =
       let lt : n < length (drop at text) = omega (arith, length-drop at text, starts.within, open') in
       let more = after_space n (drop at text) lt in
       sym so_far ∙ ap (option_map (λ hs. read ++ hs)) (hints_at (drop at text) v n starts ∙ zero_then v (words_after n (drop at text)) _ is ∙ ap (λ (ws : List (List ℕ)). cond (length ws == 0) (Some []) None) more
       ∙ ap (λ b. cond b (Some []) None) (words_some (drop (n + 1) (drop at text))))
-
-  pub hints_cut : (v n : ℕ) → StartsWith number_in (drop at text) v n → v ≢ 0 → at + n ≡ length text → whole ≡ None
-  hints_cut v n starts other end =
-      let past : length (drop at text) ≤ n = omega (arith, length-drop at text, starts.within) in
-      let empty = after_end n (drop at text) past in
-      sym so_far ∙ ap (option_map (λ hs. read ++ hs)) (hints_at (drop at text) v n starts ∙ one_then v (words_after n (drop at text)) _ other ∙ ap (λ ws. option_map (λ hs. v ∷ hs) (hints_in ws)) empty)
 
   -- one more hint
   pub hints_more : (v n : ℕ) → at ≤ length text → StartsWith number_in (drop at text) v n → v ≢ 0 → at + n ≢ length text → option_map (λ hs. (read ++ v ∷ []) ++ hs) (hints_in (words_of (drop (at + n + 1) text))) ≡ whole
@@ -83,7 +62,7 @@ then_positive (Some v) words None later hs is =
   where
     ended : (words : List (List ℕ)) → cond (length words == 0) (Some []) None ≡ Some hs → All (λ h. 1 ≤ h) hs
     ended [] is = let same : [] ≡ hs = cc in subst (λ xs. All (λ h. 1 ≤ h) xs) same (All-nil (λ h. 1 ≤ h))
-    ended (w ∷ ws) is = let none : ◌≡◌ {A = Option (List ℕ)} None (Some hs) = sym (ap (λ b. cond b (Some []) None) (no_test (length (w ∷ ws)) 0 (λ e. absurd (omega (arith, e))))) ∙ is in absurd cc
+    ended (w ∷ ws) is = let none : ◌≡◌ {A = Option (List ℕ)} None (Some hs) = sym (ap (λ b. cond b (Some []) None) (ne_eqb (length (w ∷ ws)) 0 (λ e. absurd (omega (arith, e))))) ∙ is in absurd cc
 then_positive (Some v) words (Some more) later hs is =
     elim (eqb_tells v 0) [
       | inl same ↦ ended words (sym (zero_then v words (Some more) same.1) ∙ is)
@@ -96,7 +75,7 @@ then_positive (Some v) words (Some more) later hs is =
   where
     ended : (words : List (List ℕ)) → cond (length words == 0) (Some []) None ≡ Some hs → All (λ h. 1 ≤ h) hs
     ended [] is = let same : [] ≡ hs = cc in subst (λ xs. All (λ h. 1 ≤ h) xs) same (All-nil (λ h. 1 ≤ h))
-    ended (w ∷ ws) is = let none : ◌≡◌ {A = Option (List ℕ)} None (Some hs) = sym (ap (λ b. cond b (Some []) None) (no_test (length (w ∷ ws)) 0 (λ e. absurd (omega (arith, e))))) ∙ is in absurd cc
+    ended (w ∷ ws) is = let none : ◌≡◌ {A = Option (List ℕ)} None (Some hs) = sym (ap (λ b. cond b (Some []) None) (ne_eqb (length (w ∷ ws)) 0 (λ e. absurd (omega (arith, e))))) ∙ is in absurd cc
 
 pub hints_positive : (words : List (List ℕ)) (hs : List ℕ) → hints_in words ≡ Some hs → All (λ h. 1 ≤ h) hs
 hints_positive [] hs is = absurd cc

@@ -4,6 +4,7 @@ pub mod FollowFacts
 pub mod FaultFacts
 pub mod ChainFacts
 pub mod GoodFacts
+pub mod RefusalFacts
 pub mod TruthFacts
 pub mod WriteFacts
 pub mod NumberFacts
@@ -11,4 +12,5 @@ pub mod HintFacts
 pub mod LineFacts
 pub mod WordFacts
 pub mod ReadsBack
+pub mod UnreadFacts
 pub mod FreshFacts

@@ -2,8 +2,9 @@
 use Rattle.std.proofs.Common.{◌≡◌, ℕ, ◌+◌, ◌<◌, ◌≤◌, ◌==◌, nat_lt, Bool, true, false, cond, List, [], ◌∷◌, ◌++◌, length, take, drop, Some, None, refl, sym, ◌∙◌, ap, arith}
 use Rattle.std.specs.Prelude.{Result, Ok, Err}
 use Rattle.std.specs.List.{position, position_or_len}
+use Rattle.std.proofs.lemmas.Bool.{ltb-false, ltb-true, ne_eqb}
 use Rattle.std.proofs.lemmas.Bool.Decides.{nat_tests}
-use Rattle.std.proofs.lemmas.List.{append-nil, append_assoc, drop-drop, drop_all, length-drop}
+use Rattle.std.proofs.lemmas.List.{append_assoc, drop-drop, length-drop}
 use Rattle.std.proofs.lemmas.List.Sums.{fails_before_first}
 use Rattle.std.proofs.lemmas.List.Splits.{slice_split_none, slice_split_first}
 use Rattle.std.proofs.lemmas.Option.{cond_some}
@@ -12,7 +13,7 @@ use Rattle.chain_core.specs.declared.encoding.Encoding.{Encoding}
 use Rattle.chain_core.specs.declared.fault.LogFault.{LogFault}
 use Rattle.chain_core.specs.declared.fault.LogFault.TheVariants.{Header, Shape}
 use Rattle.chain_core.specs.declared.log.Lemma.{Lemma}
-use Rattle.chain_core.proofs.NumberFacts.{split_some, no_test}
+use Rattle.chain_core.proofs.NumberFacts.{split_some}
 
 -- lemmas before the others
 abbrev pub after_lemmas : List Lemma → Result (List Lemma) LogFault → Result (List Lemma) LogFault
@@ -26,29 +27,23 @@ cond_none : (b : Bool) (n : ℕ) → cond b (Some n) None ≡ None → b ≡ fal
 cond_none true n h = absurd cc
 cond_none false n h = refl
 
-less_told : (m n : ℕ) → nat_lt m n ≡ true → m < n
-less_told m n h = grind (arith, nat_tests)
-
-not_less_told : (m n : ℕ) → nat_lt m n ≡ false → n ≤ m
-not_less_told m n h = grind (arith, nat_tests)
-
 -- a text in which no line ends
 no_line : (text : List ℕ) → None ≡ position is_end text → lines_of text ≡ text ∷ []
 no_line text none =
-    let past : length text ≤ position_or_len is_end text = not_less_told _ _ (cond_none _ _ (sym none)) in
+    let past : length text ≤ position_or_len is_end text = ltb-false _ _ (cond_none _ _ (sym none)) in
     slice_split_none is_end text (λ k d lt. fails_before_first is_end text k d (omega (arith, past, lt)))
 
 -- the first line, and the others
 pub line_inside : (text : List ℕ) (n : ℕ) → Some n ≡ position is_end text → n < length text
 line_inside text n some =
     let parts = cond_some _ _ _ (sym some) in
-    let lt : position_or_len is_end text < length text = less_told _ _ parts.0 in
+    let lt : position_or_len is_end text < length text = ltb-true _ _ parts.0 in
     omega (arith, lt, parts.1)
 
 first_line : (text : List ℕ) (n : ℕ) → Some n ≡ position is_end text → lines_of text ≡ take n text ∷ lines_of (drop (n + 1) text)
 first_line text n some =
     let parts = cond_some _ _ _ (sym some) in
-    let lt : position_or_len is_end text < length text = less_told _ _ parts.0 in
+    let lt : position_or_len is_end text < length text = ltb-true _ _ parts.0 in
     slice_split_first is_end text 0 lt ∙ ap (λ k. take k text ∷ lines_of (drop (k + 1) text)) parts.1
 
 -- the lemmas of a text by its first line
@@ -66,7 +61,7 @@ module _ (bytes : List ℕ) (at line : ℕ) (rest : List ℕ) (log : List Lemma)
   pub line_cut : None ≡ position is_end rest → at < length bytes → whole ≡ Err (Shape line)
   line_cut none inside =
       let some : 0 < length rest = omega (arith, ap length is, length-drop at bytes, inside) in
-      let open' : (length rest == 0) ≡ false = no_test (length rest) 0 (λ e. absurd (omega (arith, e, some))) in
+      let open' : (length rest == 0) ≡ false = ne_eqb (length rest) 0 (λ e. absurd (omega (arith, e, some))) in
       sym now ∙ ap (λ ls. after_lemmas log (lemmas_in line ls)) (no_line rest none) ∙ ap (λ b. after_lemmas log (cond b (Ok []) (Err (Shape line)))) open'
 
   -- a line that is no lemma
@@ -86,11 +81,6 @@ module _ (bytes : List ℕ) (at line : ℕ) (rest : List ℕ) (log : List Lemma)
       ∙ sym (onto lemma (lemmas_in (line + 1) (lines_of (drop (n + 1) rest))))
       ∙ ap (λ o. after_lemmas log (lemmas_then line o (lemmas_in (line + 1) (lines_of (drop (n + 1) rest))))) (sym reads)
       ∙ ap (after_lemmas log) (sym (lemmas_first line rest n some)) ∙ now
-
--- all lines are read
-pub lines_done : (bytes : List ℕ) (at line : ℕ) (log : List Lemma) (whole : Result (List Lemma) LogFault) → length bytes ≤ at → after_lemmas log (lemmas_in line (lines_of (drop at bytes))) ≡ whole → whole ≡ Ok log
-lines_done bytes at line log whole past so_far =
-    sym so_far ∙ ap (λ t. after_lemmas log (lemmas_in line (lines_of t))) (drop_all at bytes past) ∙ ap Ok (append-nil log)
 
 -- a log by its first line
 pub no_header : (bytes : List ℕ) → None ≡ position is_end bytes → log_of bytes ≡ Err Header

@@ -5,7 +5,7 @@ use Rattle.std.specs.List.{All, slice_split, onto_first}
 use Rattle.std.specs.Char.{is_ascii_digit, digit_value}
 use Rattle.std.specs.Str.{all_ascii_digits}
 use Rattle.std.specs.Str.Parse.{AllDigits, digits_value}
-use Rattle.std.proofs.lemmas.Bool.{false≢true, cases_lt}
+use Rattle.std.proofs.lemmas.Bool.{false≢true, cases_lt, and_right, cases_Bool, eqb-false, eqb-true, le-leb, le-ltb, lt-ltb, ne_eqb, not-false, or_cases, or_parts}
 use Rattle.std.proofs.lemmas.Bool.Decides.{nat_tests, eqb_tells}
 use Rattle.std.proofs.lemmas.List.{take-append-drop, drop_more, take_all}
 use Rattle.std.proofs.lemmas.List.Elements.{All-cons, All-nil, All-head, All-tail}
@@ -15,7 +15,6 @@ use Rattle.std.proofs.lemmas.Str.Parse.{digit_from_value, tells_all_ascii_digits
 use Rattle.std.proofs.lemmas.Int.Digits.{digits_more, digits_value_more}
 use Rattle.chain_core.specs.Reading.{words_of, number_in, place_in}
 use Rattle.chain_core.specs.Front.{words_after, StartsWith, StartsWithOther}
-use Rattle.chain_core.proofs.ChainFacts.{true_or_false}
 
 -- a number by the four tests of its word
 pub number_by : (word : List ℕ) (a b c d : Bool) → nat_lt 0 (length word) ≡ a → all_ascii_digits word ≡ b → (length word == 1 || not (get_or word 0 0 == 48)) ≡ c → nat_le (digits_value 10 word) 4294967295 ≡ d
@@ -26,15 +25,8 @@ number_by word a b c d pa pb pc pd =
     ∙ ap (λ t. cond (a && b && t && nat_le (digits_value 10 word) 4294967295) (Some (digits_value 10 word)) None) pc
     ∙ ap (λ t. cond (a && b && c && t) (Some (digits_value 10 word)) None) pd
 
-not_true : (b : Bool) → false ≡ not b → b ≡ true
-not_true true h = refl
-not_true false h = absurd (false≢true h)
-
 some_length : (n : ℕ) → false ≡ (n == 0) → nat_lt 0 n ≡ true
 some_length n h = grind (arith, nat_tests)
-
-small_value : (n : ℕ) → n ≤ 4294967295 → nat_le n 4294967295 ≡ true
-small_value n h = grind (arith, nat_tests)
 
 pub all_digits : (word : List ℕ) → AllDigits 10 word → all_ascii_digits word ≡ true
 all_digits word digits = (numerals_by_value (λ ds. all_ascii_digits ds ≡ true) tells_all_ascii_digits).from word digits
@@ -44,17 +36,13 @@ pub number_is : (word : List ℕ) (value : ℕ) → AllDigits 10 word → false 
 number_is word value digits some plain is small =
     let same : digits_value 10 word ≡ value = omega arith in
     let fits : digits_value 10 word ≤ 4294967295 = omega (arith, same, small) in
-    sym (number_by word true true true true (some_length (length word) some) (all_digits word digits) (not_true _ plain) (small_value _ fits) ∙ ap Some same)
-
-and_false : (a : Bool) → (a && false) ≡ false
-and_false true = refl
-and_false false = refl
+    sym (number_by word true true true true (some_length (length word) some) (all_digits word digits) (not-false _ (sym plain)) (le-leb _ _ fits) ∙ ap Some same)
 
 -- a word that is not all digits writes no number
 number_broken : (word : List ℕ) → all_ascii_digits word ≡ false → number_in word ≡ None
 number_broken word broken =
     number_by word (nat_lt 0 (length word)) false _ _ refl broken refl refl
-    ∙ ap (λ t. cond (t && (length word == 1 || not (get_or word 0 0 == 48)) && nat_le (digits_value 10 word) 4294967295) (Some (digits_value 10 word)) None) (and_false (nat_lt 0 (length word)))
+    ∙ ap (λ t. cond (t && (length word == 1 || not (get_or word 0 0 == 48)) && nat_le (digits_value 10 word) 4294967295) (Some (digits_value 10 word)) None) (and_right (nat_lt 0 (length word)) false refl)
 
 -- one more digit of a number
 pub digit_more : (text : List ℕ) (n value : ℕ) → n < length text → AllDigits 10 (take n text) → is_ascii_digit (get_or text n 0) ≡ true → value ≡ min (digits_value 10 (take n text)) 4294967296
@@ -71,7 +59,7 @@ digit_more text n value lt digits is was =
 pub split_some : (p : ℕ → Bool) (xs : List ℕ) → (part : List ℕ) × ((parts : List (List ℕ)) × (slice_split p xs ≡ part ∷ parts))
 split_some p [] = ([], ([], refl))
 split_some p (x ∷ xs) =
-    elim (true_or_false (p x)) [
+    elim (cases_Bool (p x)) [
       | inl stops ↦ ([], (slice_split p xs, slice_split-cons_yes p x xs stops))
       | inr goes ↦ (let later = split_some p xs in (x ∷ later.0, (later.1.0, slice_split-cons_no p x xs goes ∙ ap (onto_first x) later.1.1)))
     ]
@@ -82,27 +70,17 @@ split_front p [] ys part parts goes is = is
 split_front p (x ∷ xs) ys part parts goes is =
     slice_split-cons_no p x (xs ++ ys) (All-head (λ y. p y ≡ false) x xs goes) ∙ ap (onto_first x) (split_front p xs ys part parts (All-tail (λ y. p y ≡ false) x xs goes) is)
 
-pub no_test : (c k : ℕ) → c ≢ k → (c == k) ≡ false
-no_test c k other = elim (eqb_tells c k) [ inl same ↦ absurd (other same.1) | inr apart ↦ apart.0 ]
-
 -- digits are no spaces
 pub digits_go : (xs : List ℕ) → AllDigits 10 xs → All (λ x. (x == 32) ≡ false) xs
 digits_go [] digits = All-nil (λ x. (x == 32) ≡ false)
 digits_go (c ∷ xs) digits =
     let range = digit_from_value c digits.0 in
     let other : c ≢ 32 = omega (arith, range.0, range.1) in
-    All-cons (λ x. (x == 32) ≡ false) c xs (no_test c 32 other) (digits_go xs digits.1)
+    All-cons (λ x. (x == 32) ≡ false) c xs (ne_eqb c 32 other) (digits_go xs digits.1)
 
 all_but : (xs : List ℕ) (y : ℕ) (part : List ℕ) → is_ascii_digit y ≡ false → all_ascii_digits (xs ++ y ∷ part) ≡ false
 all_but [] y part other = ap (λ b. b && all_ascii_digits part) other
-all_but (x ∷ xs) y part other = ap (λ b. is_ascii_digit x && b) (all_but xs y part other) ∙ and_false (is_ascii_digit x)
-
-or_none : (a b : Bool) → false ≡ (a || b) → (a ≡ false) × (b ≡ false)
-or_none true b h = absurd (false≢true h)
-or_none false b h = (refl, sym h)
-
-told_apart : (m n : ℕ) → (m == n) ≡ false → m ≢ n
-told_apart m n h e = false≢true (sym h ∙ eq-eqb m n e)
+all_but (x ∷ xs) y part other = ap (λ b. is_ascii_digit x && b) (all_but xs y part other) ∙ and_right (is_ascii_digit x) false refl
 
 apart_at : (text : List ℕ) (n : ℕ) → n < length text → text ≡ take n text ++ get_or text n 0 ∷ drop (n + 1) text
 apart_at text n lt = sym (take-append-drop n text) ∙ ap (λ t. take n text ++ t) (drop_more text n 0 lt)
@@ -110,8 +88,8 @@ apart_at text n lt = sym (take-append-drop n text) ∙ ap (λ t. take n text ++ 
 -- digits that go on with neither a digit nor a space begin a word that writes no number
 pub front_broken : (text : List ℕ) (n : ℕ) → n ≤ length text → AllDigits 10 (take n text) → (n < length text → is_ascii_digit (get_or text n 0) ≡ false) → false ≡ (length text == n || get_or text n 0 == 32) → StartsWithOther number_in text
 front_broken text n within digits stops open' =
-    let parts = or_none (length text == n) (get_or text n 0 == 32) open' in
-    let before : length text ≢ n = told_apart (length text) n parts.0 in
+    let parts = or_parts (length text == n) (get_or text n 0 == 32) (sym open') in
+    let before : length text ≢ n = eqb-false (length text) n parts.0 in
     let lt : n < length text = omega (arith, before) in
     let rest : List ℕ = drop (n + 1) text in
     let y : ℕ = get_or text n 0 in
@@ -125,24 +103,11 @@ front_broken text n within digits stops open' =
       ),
     )
 
-pub either_true : (a b : Bool) → true ≡ (a || b) → (a ≡ true) ⊎ (b ≡ true)
-either_true true b h = inl refl
-either_true false b h = inr (sym h)
-
-pub less_tested : (m n : ℕ) → m < n → nat_lt m n ≡ true
-less_tested m n h = grind (arith, nat_tests)
-
-not_less : (m n : ℕ) → n ≤ m → nat_lt m n ≡ false
-not_less m n h = grind (arith, nat_tests)
-
-pub told_same : (m n : ℕ) → (m == n) ≡ true → m ≡ n
-told_same m n h = elim (eqb_tells m n) [ inl same ↦ same.1 | inr other ↦ absurd (false≢true (sym other.0 ∙ h)) ]
-
 pub after_end : (n : ℕ) (text : List ℕ) → length text ≤ n → words_after n text ≡ []
-after_end n text past = ap (λ b. cond b (words_of (drop (n + 1) text)) []) (not_less n (length text) past)
+after_end n text past = ap (λ b. cond b (words_of (drop (n + 1) text)) []) (le-ltb n (length text) past)
 
 pub after_space : (n : ℕ) (text : List ℕ) → n < length text → words_after n text ≡ words_of (drop (n + 1) text)
-after_space n text lt = ap (λ b. cond b (words_of (drop (n + 1) text)) []) (less_tested n (length text) lt)
+after_space n text lt = ap (λ b. cond b (words_of (drop (n + 1) text)) []) (lt-ltb n (length text) lt)
 
 -- digits that end with their word are the first word
 pub front_words : (text : List ℕ) (n : ℕ) → n ≤ length text → AllDigits 10 (take n text) → true ≡ (length text == n || get_or text n 0 == 32) → words_of text ≡ take n text ∷ words_after n text
@@ -150,8 +115,8 @@ front_words text n within digits ends =
     elim (cases_lt n (length text)) [
       | inl lt ↦
           (let differ : length text ≢ n = omega arith in
-          let space : (get_or text n 0 == 32) ≡ true = elim (either_true (length text == n) (get_or text n 0 == 32) ends) [
-            | inl same ↦ absurd (differ (told_same (length text) n same))
+          let space : (get_or text n 0 == 32) ≡ true = elim (or_cases (length text == n) (get_or text n 0 == 32) (sym ends)) [
+            | inl same ↦ absurd (differ (eqb-true (length text) n same))
             | inr is ↦ is
           ] in
           ap words_of (apart_at text n lt) ∙ slice_split_at (λ b. b == 32) (take n text) (get_or text n 0) (drop (n + 1) text) (digits_go (take n text) digits) space
@@ -177,7 +142,7 @@ minus_text (c ∷ text) some is = ap (λ x. x ∷ text) is
 
 pub no_minus : (text : List ℕ) → true ≡ (length text == 0) → get_or text 0 0 ≢ 45
 no_minus [] none = λ is. absurd (omega arith)
-no_minus (c ∷ text) none = λ is. let e : length (c ∷ text) ≡ 0 = told_same (length (c ∷ text)) 0 (sym none) in absurd (omega (arith, e))
+no_minus (c ∷ text) none = λ is. let e : length (c ∷ text) ≡ 0 = eqb-true (length (c ∷ text)) 0 (sym none) in absurd (omega (arith, e))
 
 less_suc : (m n : ℕ) → nat_lt (m + 1) (suc n) ≡ nat_lt m n
 less_suc m n = grind (arith, nat_tests)
@@ -206,13 +171,13 @@ head_word : (text word : List ℕ) (c : ℕ) (words : List (List ℕ)) → words
 head_word [] word c words is = absurd cc
 head_word (x ∷ text) word c words is =
     let later = split_some (λ b. b == 32) text in
-    elim (true_or_false (x == 32)) [
+    elim (cases_Bool (x == 32)) [
       | inl stops ↦ (let first : [] ∷ words_of text ≡ (c ∷ word) ∷ words = sym (slice_split-cons_yes (λ b. b == 32) x text stops) ∙ is in absurd cc)
       | inr goes ↦ (let first : (x ∷ later.0) ∷ later.1.0 ≡ (c ∷ word) ∷ words = sym (slice_split-cons_no (λ b. b == 32) x text goes ∙ ap (onto_first x) later.1.1) ∙ is in cc)
     ]
 
 pub plain_place : (word : List ℕ) (c : ℕ) → c ≢ 45 → place_in (c ∷ word) ≡ option_map (λ v. 2 * v) (number_in (c ∷ word))
-plain_place word c other = ap (λ b. cond b (option_map (λ v. 2 * v + 1) (number_in word)) (option_map (λ v. 2 * v) (number_in (c ∷ word)))) (no_test c 45 other)
+plain_place word c other = ap (λ b. cond b (option_map (λ v. 2 * v + 1) (number_in word)) (option_map (λ v. 2 * v) (number_in (c ∷ word)))) (ne_eqb c 45 other)
 
 pub plain_is : (text : List ℕ) (v n : ℕ) → get_or text 0 0 ≢ 45 → StartsWith number_in text v n → StartsWith place_in text (2 * v) n
 plain_is text v n other starts = record { within = starts.within; words = starts.words; is = at_word (take n text) starts.words starts.is }

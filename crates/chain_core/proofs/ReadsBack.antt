@@ -1,8 +1,9 @@
 -- The text of a log reads as that log, and no other text does.
-use Rattle.std.proofs.Common.{◌≡◌, ◌≢◌, ℕ, ◌+◌, ◌*◌, ◌<◌, ◌≤◌, ◌==◌, ◌&&◌, nat_lt, nat_le, Bool, true, false, cond, List, [], ◌∷◌, ◌++◌, length, map, Option, Some, None, refl, sym, ◌∙◌, ap, arith, rules, eq-eqb, subst, ◌↔◌, inl, inr}
+use Rattle.std.proofs.Common.{◌≡◌, ◌≢◌, ℕ, ◌+◌, ◌*◌, ◌<◌, ◌≤◌, ◌==◌, ◌&&◌, nat_le, Bool, true, false, cond, List, [], ◌∷◌, ◌++◌, length, map, Option, Some, None, refl, sym, ◌∙◌, ap, arith, rules, eq-eqb, subst, ◌↔◌, inl, inr}
 use Rattle.std.specs.Prelude.{option_map, decimal, codes, Result, Ok, Err}
 use Rattle.std.specs.List.{All, flat_map, join_with_byte}
 use Rattle.std.specs.Str.{bytes_eq}
+use Rattle.std.proofs.lemmas.Bool.{cases_Bool, ne_eqb}
 use Rattle.std.proofs.lemmas.Bool.Decides.{nat_tests, eqb_tells}
 use Rattle.std.proofs.lemmas.List.{append_assoc}
 use Rattle.std.proofs.lemmas.List.Elements.{All-cons, All-nil, All-head, All-tail, All-append, All-map, All-weaker, All-from_recursion}
@@ -10,23 +11,19 @@ use Rattle.std.proofs.lemmas.List.Splits.{slice_split_at, join_with_byte-slice_s
 use Rattle.std.proofs.lemmas.Fmt.{decimal_digit}
 use Rattle.std.proofs.lemmas.Slice.Eq.{bytes_eq-Decides}
 use Rattle.std.proofs.lemmas.Option.{none-some, same_Some, cond_some, some_pair_parts}
+use Rattle.chain_core.specs.Literal.{IsPlace}
+use Rattle.chain_core.specs.Lemma.{IsId, IsWritable}
+use Rattle.chain_core.specs.declared.literal.TheConstants.{MOST_PLACE}
 use Rattle.chain_core.specs.Text.{line_of, literal_word, clause_words, lemma_words, header_words, log_text}
-use Rattle.chain_core.specs.Reading.{words_of, lines_of, number_in, place_in, hints_in, hints_then, literals_in, literals_then, lemma_in, lemma_from, lemma_of_words, lemmas_in, lemmas_then, encoding_in, log_then, log_of_lines, log_of, IsWritable}
+use Rattle.chain_core.specs.Reading.{words_of, lines_of, number_in, place_in, hints_in, hints_then, literals_in, literals_then, lemma_in, lemma_from, lemma_of_words, lemmas_in, lemmas_then, encoding_in, log_then, log_of_lines, log_of}
 use Rattle.chain_core.specs.declared.encoding.Encoding.{Encoding}
 use Rattle.chain_core.specs.declared.encoding.Encoding.TheVariants.{Separation}
 use Rattle.chain_core.specs.declared.fault.LogFault.{LogFault}
 use Rattle.chain_core.specs.declared.fault.LogFault.TheVariants.{Shape}
 use Rattle.chain_core.specs.declared.log.Lemma.{Lemma}
-use Rattle.chain_core.proofs.ChainFacts.{true_or_false}
-use Rattle.chain_core.proofs.NumberFacts.{split_some, no_test, plain_place}
+use Rattle.chain_core.proofs.NumberFacts.{split_some, plain_place}
 use Rattle.chain_core.proofs.HintFacts.{zero_then, one_then}
 use Rattle.chain_core.proofs.WordFacts.{word_of_number, number_small, decimal_number, zero_number, word_of_place, literal_place, split_join, free_joined, decimal_free, literal_free, some_of}
-
-abbrev IsId : ℕ → Type 0
-IsId n = (1 ≤ n) × (n ≤ 4294967295)
-
-abbrev IsPlace : ℕ → Type 0
-IsPlace l = (2 ≤ l) × (l ≤ 4294967295)
 
 zero_word : (word : List ℕ) (v : ℕ) → number_in word ≡ Some v → v ≡ 0 → word ≡ codes "0"
 zero_word word v is none = word_of_number word v is ∙ ap decimal none ∙ decimal_digit 0 (omega arith)
@@ -38,7 +35,7 @@ record AreHints (words : List (List ℕ)) (hs : List ℕ) : Type 0 where
 
 ended : (words : List (List ℕ)) (hs : List ℕ) → cond (length words == 0) (Some []) None ≡ Some hs → (words ≡ []) × (hs ≡ [])
 ended [] hs is = let same : [] ≡ hs = cc in (refl, sym same)
-ended (w ∷ ws) hs is = let none : ◌≡◌ {A = Option (List ℕ)} None (Some hs) = sym (ap (λ b. cond b (Some []) None) (no_test (length (w ∷ ws)) 0 (λ e. absurd (omega (arith, e))))) ∙ is in absurd cc
+ended (w ∷ ws) hs is = let none : ◌≡◌ {A = Option (List ℕ)} None (Some hs) = sym (ap (λ b. cond b (Some []) None) (ne_eqb (length (w ∷ ws)) 0 (λ e. absurd (omega (arith, e))))) ∙ is in absurd cc
 
 one_more : (v : ℕ) (o : Option (List ℕ)) (hs : List ℕ) → option_map (λ xs. v ∷ xs) o ≡ Some hs → (m : List ℕ) × (o ≡ Some m) × (v ∷ m ≡ hs)
 one_more v None hs is = absurd cc
@@ -93,14 +90,14 @@ place_zero (c ∷ word) p is none =
     ]
 
 abbrev InReach : ℕ → Bool
-InReach l = nat_le 2 l && nat_lt l 4294967296
+InReach l = nat_le 2 l && nat_le l MOST_PLACE
 
 end_then : (l : ℕ) (hints : Option (List ℕ)) (more : Option (List ℕ × List ℕ)) → l ≡ 0 → literals_then (Some l) hints more ≡ option_map (λ hs. ([], hs)) hints
 end_then l hints more none = ap (λ b. cond b (option_map (λ hs. ([], hs)) hints) (cond (InReach l) (option_map (λ (m : List ℕ × List ℕ). (l ∷ m.0, m.1)) more) None)) (eq-eqb l 0 none)
 
 reach_then : (l : ℕ) (hints : Option (List ℕ)) (more : Option (List ℕ × List ℕ)) (b : Bool) → l ≢ 0 → InReach l ≡ b → literals_then (Some l) hints more ≡ cond b (option_map (λ (m : List ℕ × List ℕ). (l ∷ m.0, m.1)) more) None
 reach_then l hints more b some reach =
-    ap (λ t. cond t (option_map (λ hs. ([], hs)) hints) (cond (InReach l) (option_map (λ (m : List ℕ × List ℕ). (l ∷ m.0, m.1)) more) None)) (no_test l 0 some)
+    ap (λ t. cond t (option_map (λ hs. ([], hs)) hints) (cond (InReach l) (option_map (λ (m : List ℕ × List ℕ). (l ∷ m.0, m.1)) more) None)) (ne_eqb l 0 some)
     ∙ ap (λ t. cond t (option_map (λ (m : List ℕ × List ℕ). (l ∷ m.0, m.1)) more) None) reach
 
 reach_told : (l : ℕ) → InReach l ≡ true → IsPlace l
@@ -126,7 +123,7 @@ literals_step word words ls hs later (Some l) read is =
           (let only = only_hints (hints_in words) ls hs (sym (end_then l (hints_in words) (literals_in words) none.1) ∙ is) in
           let hints = hints_words words hs only.0 in
           subst P only.1 (record { same = ap (λ w. w ∷ words) (place_zero word l read none.1) ∙ ap (λ ws. codes "0" ∷ ws) hints.same; places = All-nil IsPlace; ids = hints.ids }))
-      | inr some ↦ (elim (true_or_false (InReach l)) [
+      | inr some ↦ (elim (cases_Bool (InReach l)) [
         | inl inside ↦
             (let more = one_literal l (literals_in words) ls hs (sym (reach_then l (hints_in words) (literals_in words) true some.1 inside) ∙ is) in
             let rest = later more.0 more.1 in
@@ -151,7 +148,7 @@ words_literals (l ∷ ls) hs places ids =
 
 -- a lemma
 id_then : (id : ℕ) (m : List ℕ × List ℕ) → id ≢ 0 → lemma_from (Some id) (Some m) ≡ Some (record { id = id; literals = m.0; hints = m.1 })
-id_then id m some = ap (λ b. cond b None (Some (record { id = id; literals = m.0; hints = m.1 }))) (no_test id 0 some)
+id_then id m some = ap (λ b. cond b None (Some (record { id = id; literals = m.0; hints = m.1 }))) (ne_eqb id 0 some)
 
 record IsLemma (words : List (List ℕ)) (lemma : Lemma) : Type 0 where
   same : words ≡ lemma_words lemma
@@ -186,11 +183,11 @@ lemma_reads lemma writable =
     ∙ ap (lemma_from (Some lemma.id)) (words_literals lemma.literals lemma.hints writable.literals writable.hints) ∙ id_then lemma.id (lemma.literals, lemma.hints) some
 
 -- words without a byte
-abbrev IsFree : ℕ → List ℕ → Type 0
+abbrev pub IsFree : ℕ → List ℕ → Type 0
 IsFree c word = All (λ b. (b == c) ≡ false) word
 
 zero_free : (c : ℕ) → c < 48 → IsFree c (codes "0")
-zero_free c low = let other : 48 ≢ c = omega arith in All-cons (λ b. (b == c) ≡ false) 48 [] (no_test 48 c other) (All-nil (λ b. (b == c) ≡ false))
+zero_free c low = let other : 48 ≢ c = omega arith in All-cons (λ b. (b == c) ≡ false) 48 [] (ne_eqb 48 c other) (All-nil (λ b. (b == c) ≡ false))
 
 lemma_free : (c : ℕ) (lemma : Lemma) → c < 45 → IsWritable lemma → IsFree c (decimal lemma.id) × All (IsFree c) (clause_words lemma.literals ++ (map decimal lemma.hints ++ codes "0" ∷ []))
 lemma_free c lemma low writable =
@@ -203,21 +200,21 @@ lemma_free c lemma low writable =
           (All-append (IsFree c) (map decimal lemma.hints) (codes "0" ∷ []) hints zero'),
     )
 
-abbrev text_of : Lemma → List ℕ
+abbrev pub text_of : Lemma → List ℕ
 text_of lemma = join_with_byte 32 (lemma_words lemma)
 
-line_reads : (lemma : Lemma) → IsWritable lemma → lemma_in (text_of lemma) ≡ Some lemma
+pub line_reads : (lemma : Lemma) → IsWritable lemma → lemma_in (text_of lemma) ≡ Some lemma
 line_reads lemma writable =
     let free = lemma_free 32 lemma (omega arith) writable in
     ap lemma_of_words (split_join 32 (decimal lemma.id) (clause_words lemma.literals ++ (map decimal lemma.hints ++ codes "0" ∷ [])) free.0 free.1) ∙ lemma_reads lemma writable
 
-line_told : (line : List ℕ) (lemma : Lemma) → lemma_in line ≡ Some lemma → (line ≡ text_of lemma) × IsWritable lemma
+pub line_told : (line : List ℕ) (lemma : Lemma) → lemma_in line ≡ Some lemma → (line ≡ text_of lemma) × IsWritable lemma
 line_told line lemma is =
     let told = lemma_told (words_of line) lemma is in
     (sym (join_with_byte-slice_split 32 line) ∙ ap (join_with_byte 32) told.same, told.writable)
 
 -- all lines
-abbrev lines_text : List Lemma → List ℕ
+abbrev pub lines_text : List Lemma → List ℕ
 lines_text log = flat_map (λ lemma. line_of (lemma_words lemma)) log
 
 record AreLines (parts : List (List ℕ)) (log : List Lemma) : Type 0 where
@@ -244,17 +241,17 @@ last_told line [] log is =
     let P : List Lemma → Type 0 = λ ls. AreLines ([] ∷ []) ls in
     subst P made (record { same = refl; writable = All-nil IsWritable })
 last_told line (c ∷ last) log is =
-    let fails : ◌≡◌ {A = Result (List Lemma) LogFault} (Err (Shape line)) (Ok log) = sym (ap (λ b. cond b (Ok []) (Err (Shape line))) (no_test (length (c ∷ last)) 0 (λ e. absurd (omega (arith, e))))) ∙ is in
+    let fails : ◌≡◌ {A = Result (List Lemma) LogFault} (Err (Shape line)) (Ok log) = sym (ap (λ b. cond b (Ok []) (Err (Shape line))) (ne_eqb (length (c ∷ last)) 0 (λ e. absurd (omega (arith, e))))) ∙ is in
     absurd cc
 
 lines_told : (line : ℕ) (part : List ℕ) (parts : List (List ℕ)) (log : List Lemma) → lemmas_in line (part ∷ parts) ≡ Ok log → AreLines (part ∷ parts) log
 lines_told line part [] log is = last_told line part log is
 lines_told line part (next ∷ parts) log is = lines_step line part next parts log (lines_told (line + 1) next parts) (lemma_in part) (lemmas_in (line + 1) (next ∷ parts)) refl refl is
 
-one_line : (text rest : List ℕ) → IsFree 10 text → lines_of ((text ++ 10 ∷ []) ++ rest) ≡ text ∷ lines_of rest
+pub one_line : (text rest : List ℕ) → IsFree 10 text → lines_of ((text ++ 10 ∷ []) ++ rest) ≡ text ∷ lines_of rest
 one_line text rest free = ap lines_of (append_assoc text (10 ∷ []) rest) ∙ slice_split_at (λ b. b == 10) text 10 rest free refl
 
-text_free : (lemma : Lemma) → IsWritable lemma → IsFree 10 (text_of lemma)
+pub text_free : (lemma : Lemma) → IsWritable lemma → IsFree 10 (text_of lemma)
 text_free lemma writable =
     let free = lemma_free 10 lemma (omega arith) writable in
     free_joined 10 (lemma_words lemma) refl (All-cons (IsFree 10) (decimal lemma.id) (clause_words lemma.literals ++ (map decimal lemma.hints ++ codes "0" ∷ [])) free.0 free.1)
@@ -270,15 +267,15 @@ lines_read line (lemma ∷ log) writable =
     ∙ ap (λ ls. lemmas_then line (Some lemma) (lemmas_in (line + 1) ls)) (sym rest.1.1) ∙ ap (lemmas_then line (Some lemma)) more
 
 -- the header
-encoding_told : (line : List ℕ) (encoding : Encoding) → encoding_in line ≡ Some encoding → line ≡ join_with_byte 32 (header_words encoding)
+pub encoding_told : (line : List ℕ) (encoding : Encoding) → encoding_in line ≡ Some encoding → line ≡ join_with_byte 32 (header_words encoding)
 encoding_told line Separation is =
     let same = cond_some (bytes_eq line (codes "lincs-refutation 1 separation")) Separation Separation is in
     (bytes_eq-Decides line (codes "lincs-refutation 1 separation")).0 same.0
 
-encoding_read : (encoding : Encoding) → encoding_in (join_with_byte 32 (header_words encoding)) ≡ Some encoding
+pub encoding_read : (encoding : Encoding) → encoding_in (join_with_byte 32 (header_words encoding)) ≡ Some encoding
 encoding_read Separation = refl
 
-header_free : (encoding : Encoding) → IsFree 10 (join_with_byte 32 (header_words encoding))
+pub header_free : (encoding : Encoding) → IsFree 10 (join_with_byte 32 (header_words encoding))
 header_free Separation = All-from_recursion (λ b. (b == 10) ≡ false) (codes "lincs-refutation 1 separation") (search rules)
 
 abbrev value_or : Encoding × List Lemma → Result (Encoding × List Lemma) LogFault → Encoding × List Lemma

@@ -1,7 +1,7 @@
 -- What a chain says of truth values.
 use Rattle.std.proofs.Common.{◌≡◌, ◌≢◌, ℕ, suc, ◌+◌, ◌-◌, ◌/◌, ◌%◌, ◌==◌, ◌||◌, not, Bool, true, false, cond, List, [], ◌∷◌, ◌++◌, map, refl, sym, ◌∙◌, ap, arith, eq-eqb, subst, ◌⊎◌, inl, inr}
 use Rattle.std.specs.List.{All, Contains}
-use Rattle.std.proofs.lemmas.Bool.{false≢true}
+use Rattle.std.proofs.lemmas.Bool.{false≢true, cases_Bool, ne_eqb}
 use Rattle.std.proofs.lemmas.Bool.Decides.{eqb_tells}
 use Rattle.std.proofs.lemmas.List.Elements.{All-push, All-cons, All-nil, All-contains, Contains-push}
 use Rattle.chain_core.specs.Literal.{negation}
@@ -10,15 +10,12 @@ use Rattle.chain_core.specs.Chain.{IsFalseUnder, Chains, ends, adds}
 use Rattle.chain_core.specs.Log.{IsGoodLemma, IsRefutation}
 use Rattle.chain_core.specs.Truth.{literal_true, clause_true, Satisfies, IsUnsatisfiable}
 use Rattle.chain_core.specs.declared.log.Lemma.{Lemma}
-use Rattle.chain_core.proofs.ChainFacts.{true_or_false, Contains-first, Contains-later}
+use Rattle.chain_core.proofs.ChainFacts.{Contains-first, Contains-later}
 use Rattle.chain_core.proofs.KnownFacts.{All-clause_at}
-use Rattle.chain_core.proofs.GoodFacts.{GoodAfter, one_known, none_known}
+use Rattle.chain_core.proofs.GoodFacts.{GoodAfter, first_good, rest_good}
 
 truth : (v : ℕ → Bool) (m h : ℕ) (b : Bool) → m / 2 ≡ h → (m % 2 == 0) ≡ b → literal_true v m ≡ cond b (v h) (not (v h))
 truth v m h b half parity = ap (λ n. cond (m % 2 == 0) (v n) (not (v n))) half ∙ ap (λ p. cond p (v h) (not (v h))) parity
-
-zero_test : (n : ℕ) (k : ℕ) → n ≡ suc k → (n == 0) ≡ false
-zero_test n k e = elim (eqb_tells n 0) [ inl same ↦ absurd (omega arith) | inr other ↦ other.0 ]
 
 mod_two : (l : ℕ) → l % 2 ≢ 0 → l % 2 ≡ 1
 mod_two l h = omega (arith, h)
@@ -33,7 +30,7 @@ flips v l =
     elim (eqb_tells (l % 2) 0) [
       | inl even ↦ (let up : negation l ≡ l + 1 = ap (λ t. cond t (l + 1) (l - 1)) even.0 in
           let here : literal_true v l ≡ v (l / 2) = truth v l (l / 2) true refl even.0 in
-          let odd : ((l + 1) % 2 == 0) ≡ false = zero_test ((l + 1) % 2) 0 (omega arith) in
+          let odd : ((l + 1) % 2 == 0) ≡ false = ne_eqb ((l + 1) % 2) 0 (omega arith) in
           let there : literal_true v (l + 1) ≡ not (v (l / 2)) = truth v (l + 1) (l / 2) false (omega arith) odd in
           ap (literal_true v) up ∙ there ∙ ap not (sym here))
       | inr odd ↦ (let down : negation l ≡ l - 1 = ap (λ t. cond t (l + 1) (l - 1)) odd.0 in
@@ -56,7 +53,7 @@ false_under v set l all out holds =
 some_true : (v : ℕ → Bool) (clause : List ℕ) → clause_true v clause ≡ true → (x : ℕ) × Contains clause x × IsTrueAt v x
 some_true v [] holds = absurd (false≢true holds)
 some_true v (x ∷ clause) holds =
-    elim (true_or_false (literal_true v x)) [
+    elim (cases_Bool (literal_true v x)) [
       | inl good ↦ (x, Contains-first x clause, good)
       | inr bad ↦ (let later = some_true v clause (sym (ap (λ b. b || clause_true v clause) bad) ∙ holds) in (later.0, Contains-later x later.0 clause later.1, later.2))
     ]
@@ -77,7 +74,7 @@ chain_sound v {known} {set} good all (adds {hints} {clause} {h} {l} at only more
 negations_true : (v : ℕ → Bool) (clause : List ℕ) → clause_true v clause ≡ false → All (IsTrueAt v) (map negation clause)
 negations_true v [] none = All-nil (IsTrueAt v)
 negations_true v (l ∷ clause) none =
-    elim (true_or_false (literal_true v l)) [
+    elim (cases_Bool (literal_true v l)) [
       | inl good ↦ absurd (false≢true (sym none ∙ ap (λ b. b || clause_true v clause) good))
       | inr bad ↦ All-cons (IsTrueAt v) (negation l) (map negation clause) (flips v l ∙ ap not bad) (negations_true v clause (sym (ap (λ b. b || clause_true v clause) bad) ∙ none))
     ]
@@ -85,7 +82,7 @@ negations_true v (l ∷ clause) none =
 -- a good lemma is true where the clauses before it are
 lemma_sound : (v : ℕ → Bool) (known : List (List ℕ)) (variables : ℕ) (lemma : Lemma) → Satisfies v known → IsGoodLemma variables known lemma → clause_true v lemma.literals ≡ true
 lemma_sound v known variables lemma holds good =
-    elim (true_or_false (clause_true v lemma.literals)) [
+    elim (cases_Bool (clause_true v lemma.literals)) [
       | inl yes' ↦ yes'
       | inr bad ↦ absurd (chain_sound v holds (negations_true v lemma.literals bad) good.chain)
     ]
@@ -94,12 +91,9 @@ lemma_sound v known variables lemma holds good =
 log_sound : (v : ℕ → Bool) (variables : ℕ) (known : List (List ℕ)) (log : List Lemma) → Satisfies v known → GoodAfter variables known log → All (λ lemma. clause_true v lemma.literals ≡ true) log
 log_sound v variables known [] holds good = All-nil (λ (lemma : Lemma). clause_true v lemma.literals ≡ true)
 log_sound v variables known (first ∷ log) holds good =
-    let Q : List (List ℕ) → Type 0 = λ clauses. IsGoodLemma variables clauses first in
-    let here = lemma_sound v known variables first holds (subst Q (none_known known (first ∷ log)) (good 0 first refl)) in
+    let here = lemma_sound v known variables first holds (first_good variables known first log good) in
     All-cons (λ (lemma : Lemma). clause_true v lemma.literals ≡ true) first log here
-    (log_sound v variables (known ++ first.literals ∷ []) log (All-push (λ c. clause_true v c ≡ true) known first.literals holds here) (λ k lemma read.
-    let R : List (List ℕ) → Type 0 = λ clauses. IsGoodLemma variables clauses lemma in
-    subst R (sym (one_known known first log k)) (good (suc k) lemma read)))
+    (log_sound v variables (known ++ first.literals ∷ []) log (All-push (λ c. clause_true v c ≡ true) known first.literals holds here) (rest_good variables known first log good))
 
 pub refutation_sound : (formula : Cnf) (log : List Lemma) → IsRefutation formula log → IsUnsatisfiable formula
 refutation_sound formula log refutation v holds =

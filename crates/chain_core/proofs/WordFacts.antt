@@ -4,7 +4,7 @@ use Rattle.std.specs.Prelude.{option_map, decimal, codes}
 use Rattle.std.specs.List.{All, slice_split, join_with_byte}
 use Rattle.std.specs.Str.{all_ascii_digits}
 use Rattle.std.specs.Str.Parse.{digits_value}
-use Rattle.std.proofs.lemmas.Bool.{false≢true, cases_lt}
+use Rattle.std.proofs.lemmas.Bool.{false≢true, cases_lt, and_parts, cases_Bool, eqb-true, le-leb, leb-true, lt-ltb, ltb-true, ne_eqb, or_cases, or_right}
 use Rattle.std.proofs.lemmas.Bool.Decides.{nat_tests, eqb_tells}
 use Rattle.std.proofs.lemmas.List.Elements.{All-cons, All-nil, All-head, All-tail, All-append}
 use Rattle.std.proofs.lemmas.List.Splits.{slice_split_none, slice_split_at}
@@ -14,20 +14,10 @@ use Rattle.std.proofs.lemmas.Fmt.{decimal_digit, decimal_nonempty, first_decimal
 use Rattle.chain_core.specs.Literal.{variable_of, has_minus}
 use Rattle.chain_core.specs.Text.{literal_word}
 use Rattle.chain_core.specs.Reading.{number_in, place_in}
-use Rattle.chain_core.proofs.ChainFacts.{true_or_false, both_true, orb_right}
-use Rattle.chain_core.proofs.NumberFacts.{number_by, no_test, told_same, either_true, plain_place, less_tested}
+use Rattle.chain_core.proofs.NumberFacts.{number_by, plain_place}
 
 own : IsNumeralModel (λ ds. all_ascii_digits ds ≡ true) (digits_value 10)
 own = numerals_by_value (λ ds. all_ascii_digits ds ≡ true) tells_all_ascii_digits
-
-less_told : (m n : ℕ) → nat_lt m n ≡ true → m < n
-less_told m n h = grind (arith, nat_tests)
-
-most_told : (m n : ℕ) → nat_le m n ≡ true → m ≤ n
-most_told m n h = grind (arith, nat_tests)
-
-most_tested : (m n : ℕ) → m ≤ n → nat_le m n ≡ true
-most_tested m n h = grind (arith, nat_tests)
 
 -- what the four tests of a number say
 record IsNumber (word : List ℕ) (n : ℕ) : Type 0 where
@@ -40,18 +30,18 @@ record IsNumber (word : List ℕ) (n : ℕ) : Type 0 where
 number_told : (word : List ℕ) (n : ℕ) → number_in word ≡ Some n → IsNumber word n
 number_told word n is =
     let all = cond_some _ _ _ is in
-    let three = both_true _ _ all.0 in
-    let two = both_true _ _ three.0 in
-    let one = both_true _ _ two.0 in
-    record { some = less_told 0 (length word) one.0; digits = one.1; plain = two.1; small = most_told (digits_value 10 word) 4294967295 three.1; value = all.1 }
+    let three = and_parts _ _ all.0 in
+    let two = and_parts _ _ three.0 in
+    let one = and_parts _ _ two.0 in
+    record { some = ltb-true 0 (length word) one.0; digits = one.1; plain = two.1; small = leb-true (digits_value 10 word) 4294967295 three.1; value = all.1 }
 
 pub number_small : (word : List ℕ) (n : ℕ) → number_in word ≡ Some n → n ≤ 4294967295
 number_small word n is = let told = number_told word n is in omega (arith, told.small, told.value)
 
 plain_length : (word : List ℕ) → (length word == 1 || not (get_or word 0 0 == 48)) ≡ true → get_or word 0 0 ≡ 48 → length word ≡ 1
 plain_length word plain zero' =
-    elim (either_true (length word == 1) (not (get_or word 0 0 == 48)) (sym plain)) [
-      | inl one ↦ told_same (length word) 1 one
+    elim (or_cases (length word == 1) (not (get_or word 0 0 == 48)) plain) [
+      | inl one ↦ eqb-true (length word) 1 one
       | inr other ↦ absurd (false≢true (sym (ap not (eq-eqb (get_or word 0 0) 48 zero')) ∙ other))
     ]
 
@@ -68,7 +58,7 @@ decimal_plain n fits =
       | inl small ↦ ap (λ w. length w == 1 || not (get_or w 0 0 == 48)) (decimal_digit n small)
       | inr large ↦
           (let first = first_decimal n (omega arith) fits in
-          orb_right (length (decimal n) == 1) (not (get_or (decimal n) 0 0 == 48)) (ap not (no_test (get_or (decimal n) 0 0) 48 (λ e. absurd (omega (arith, first, e))))))
+          or_right (length (decimal n) == 1) (not (get_or (decimal n) 0 0 == 48)) (ap not (ne_eqb (get_or (decimal n) 0 0) 48 (λ e. absurd (omega (arith, first, e))))))
     ]
 
 -- and the text of a number is read as it
@@ -77,7 +67,7 @@ decimal_number n small =
     let fits : n < 2 ^ 64 = omega arith in
     let value = digits_value-decimal own n fits in
     let low : digits_value 10 (decimal n) ≤ 4294967295 = omega (arith, value, small) in
-    number_by (decimal n) true true true true (less_tested 0 (length (decimal n)) (decimal_nonempty n fits)) (digits_decimal own n fits) (decimal_plain n fits) (most_tested (digits_value 10 (decimal n)) 4294967295 low) ∙ ap Some value
+    number_by (decimal n) true true true true (lt-ltb 0 (length (decimal n)) (decimal_nonempty n fits)) (digits_decimal own n fits) (decimal_plain n fits) (le-leb (digits_value 10 (decimal n)) 4294967295 low) ∙ ap Some value
 
 pub zero_number : number_in (codes "0") ≡ Some 0
 zero_number = refl
@@ -102,7 +92,7 @@ word_of_place (c ∷ word) p is least =
       | inr plain ↦
           (let read : option_map (λ v. 2 * v) (number_in (c ∷ word)) ≡ Some p = sym (plain_place word c plain.1) ∙ is in
           let v = some_of (λ v. 2 * v) (number_in (c ∷ word)) p read in
-          let sign : has_minus p ≡ false = no_test (p % 2) 1 (λ e. absurd (omega (arith, v.2, e))) in
+          let sign : has_minus p ≡ false = ne_eqb (p % 2) 1 (λ e. absurd (omega (arith, v.2, e))) in
           word_of_number (c ∷ word) v.0 v.1 ∙ sym (literal_by_sign p v.0 false sign (omega (arith, v.2))))
     ]
 
@@ -148,7 +138,7 @@ digits_free c low [] digits = All-nil (λ b. (b == c) ≡ false)
 digits_free c low (x ∷ xs) digits =
     let parts = tells_all_ascii_digits.parts x xs digits in
     let other : x ≢ c = omega (arith, parts.0.0, low) in
-    All-cons (λ b. (b == c) ≡ false) x xs (no_test x c other) (digits_free c low xs parts.1)
+    All-cons (λ b. (b == c) ≡ false) x xs (ne_eqb x c other) (digits_free c low xs parts.1)
 
 pub decimal_free : (c n : ℕ) → c < 48 → n < 2 ^ 64 → All (λ b. (b == c) ≡ false) (decimal n)
 decimal_free c n low fits = digits_free c low (decimal n) (digits_decimal own n fits)
@@ -156,11 +146,11 @@ decimal_free c n low fits = digits_free c low (decimal n) (digits_decimal own n 
 pub literal_free : (c l : ℕ) → c < 45 → l ≤ 4294967295 → All (λ b. (b == c) ≡ false) (literal_word l)
 literal_free c l low most =
     let digits = decimal_free c (variable_of l) (omega arith) (omega arith) in
-    elim (true_or_false (has_minus l)) [
+    elim (cases_Bool (has_minus l)) [
       | inl minus ↦
           (let P : List ℕ → Type 0 = λ w. All (λ b. (b == c) ≡ false) w in
           let other : 45 ≢ c = omega arith in
-          subst P (sym (literal_by_sign l (variable_of l) true minus refl)) (All-cons (λ b. (b == c) ≡ false) 45 (decimal (variable_of l)) (no_test 45 c other) digits))
+          subst P (sym (literal_by_sign l (variable_of l) true minus refl)) (All-cons (λ b. (b == c) ≡ false) 45 (decimal (variable_of l)) (ne_eqb 45 c other) digits))
       | inr plain ↦
           (let P : List ℕ → Type 0 = λ w. All (λ b. (b == c) ≡ false) w in
           subst P (sym (literal_by_sign l (variable_of l) false plain refl)) digits)

@@ -2,7 +2,7 @@
 use Rattle.std.proofs.Common.{◌≡◌, ℕ, ◌+◌, ◌<◌, ◌≤◌, List, [], ◌∷◌, ◌++◌, length, map, get_or, take, drop, refl, sym, ap, ◌∙◌, subst}
 use Rattle.std.specs.Prelude.{Result, Ok, Err, IsErr, OnOk, Some, decimal, codes}
 use Rattle.std.specs.List.{All, slice_get, flat_map, join_with_byte}
-use Rattle.std.proofs.lemmas.List.{append_assoc, take_more, take_all, drop_more, take-append-drop, flat_map_more}
+use Rattle.std.proofs.lemmas.List.{append_assoc, take_more, drop_more, take-append-drop, flat_map_more}
 use Rattle.std.proofs.lemmas.List.Concat.{flat_map-append}
 use Rattle.std.proofs.lemmas.List.Elements.{All-more}
 use Rattle.std.proofs.lemmas.Option.{slice_get_within, get_or_from_slice_get}
@@ -10,9 +10,9 @@ use Rattle.lists_core.specs.Puts.{Puts}
 use Rattle.lists_core.proofs.PutsFacts.{puts-then, puts-cut, puts-failed}
 use Rattle.chain_core.specs.Text.{line_of, sign_text, literal_word, size_words, clause_words, lemma_words, header_words, dimacs_text}
 use Rattle.chain_core.specs.Cnf.{Cnf}
-use Rattle.chain_core.specs.Lemma.{IsNumbered}
-use Rattle.chain_core.specs.Reading.{IsWritable}
-use Rattle.chain_core.specs.Literal.{variable_of}
+use Rattle.chain_core.specs.Lemma.{IsNumbered, IsWritable}
+use Rattle.chain_core.specs.Literal.{IsPlace, variable_of}
+use Rattle.chain_core.specs.declared.number.TheConstants.{MOST_ID}
 use Rattle.chain_core.specs.declared.encoding.Encoding.{Encoding}
 use Rattle.chain_core.specs.declared.encoding.Encoding.TheVariants.{Separation}
 use Rattle.chain_core.specs.declared.log.Lemma.{Lemma}
@@ -121,9 +121,6 @@ module _ {X : Type 0} (text_of : X → List ℕ) (xs : List X) (i : ℕ) (x : X)
       subst P (sym (cut_apart lt read)) (puts-then old mid (flat_map text_of (take i xs)) was new (text_of x ++ flat_map text_of (drop (i + 1) xs)) r
       (puts-failed mid new (text_of x ++ flat_map text_of (drop (i + 1) xs)) r failed (puts-cut mid new (text_of x) (flat_map text_of (drop (i + 1) xs)) part)))
 
-  pub all_put : length xs ≤ i → mid ≡ old ++ flat_map text_of (take i xs) → mid ≡ old ++ flat_map text_of xs
-  all_put past was = was ∙ ap (λ ys. old ++ flat_map text_of ys) (take_all i xs past)
-
 -- what holds anyway holds where a call succeeds
 pub OnOk-known : {T E P : Type 0} (r : Result T E) → P → OnOk r P
 OnOk-known (Ok v) holds = holds
@@ -135,11 +132,11 @@ All-slice_get P log k lemma all at = subst P (get_or_from_slice_get log k lemma 
 
 -- a lemma whose numbers count from 1 and fit is writable
 pub writable_by : (lemma : Lemma) (literals hints : List ℕ) → IsNumbered lemma → literals ≡ lemma.literals → hints ≡ lemma.hints
-    → lemma.id ≤ 4294967295 → All (λ l. (2 ≤ l) × (l ≤ 4294967295)) literals → All (λ h. h ≤ 4294967295) hints → IsWritable lemma
+    → lemma.id ≤ MOST_ID → All IsPlace literals → All (λ h. h ≤ MOST_ID) hints → IsWritable lemma
 writable_by lemma literals hints numbered is_literals is_hints id places ids = record {
   id = (numbered.id, id);
-  literals = subst (All (λ l. (2 ≤ l) × (l ≤ 4294967295))) is_literals places;
-  hints = λ k d lt. (numbered.hints k d lt, subst (All (λ h. h ≤ 4294967295)) is_hints ids k d lt);
+  literals = subst (All IsPlace) is_literals places;
+  hints = λ k d lt. (numbered.hints k d lt, subst (All (λ h. h ≤ MOST_ID)) is_hints ids k d lt);
 }
 
 -- one more lemma is writable

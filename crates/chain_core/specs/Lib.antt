@@ -3,9 +3,11 @@ pub mod Cnf
 pub mod Lemma
 pub mod Chain
 pub mod Log
+pub mod Refusal
 pub mod Truth
 pub mod Fresh
 pub mod Stamps
 pub mod Text
 pub mod Reading
+pub mod Unread
 pub mod Front

@@ -1,5 +1,10 @@
 -- A literal is seen as its place: twice its variable, and one more where its sign is minus.
-use Rattle.std.specs.Prelude.{ℕ, Bool, ℤ, pos, negsuc, ◌+◌, ◌-◌, ◌/◌, ◌%◌, ◌==◌, if◌then◌else◌}
+use Rattle.std.specs.Prelude.{ℕ, ◌≤◌, Bool, ℤ, pos, negsuc, ◌+◌, ◌-◌, ◌/◌, ◌%◌, ◌==◌, if◌then◌else◌}
+use Rattle.chain_core.specs.declared.literal.TheConstants.{MOST_PLACE}
+
+-- the place of a literal: its variable is from 1 to the greatest
+abbrev pub IsPlace : ℕ → Type 0
+IsPlace l = (2 ≤ l) × (l ≤ MOST_PLACE)
 
 abbrev pub variable_of : ℕ → ℕ
 variable_of l = l / 2

@@ -8,9 +8,13 @@ use Rattle.chain_core.specs.declared.log.Lemma.{Lemma}
 use Rattle.chain_core.specs.declared.fault.CheckFault.{CheckFault}
 use Rattle.chain_core.specs.declared.fault.CheckFault.TheVariants.{Id, Literal, Hint, Chain, NotEmpty}
 
--- the clauses that the lemma at place k may name: those of the formula, and the earlier lemmas
+-- the clauses that may be named after these lemmas: those of the formula, and the lemmas
+abbrev pub known_after : Cnf → List Lemma → List (List ℕ)
+known_after formula earlier = formula.clauses ++ map (λ lemma. lemma.literals) earlier
+
+-- the clauses that the lemma at place k may name
 abbrev pub known_before : Cnf → List Lemma → ℕ → List (List ℕ)
-known_before formula log k = formula.clauses ++ map (λ lemma. lemma.literals) (take k log)
+known_before formula log k = known_after formula (take k log)
 
 -- a lemma is good after these clauses
 pub record IsGoodLemma (variables : ℕ) (known : List (List ℕ)) (lemma : Lemma) : Type 0 where

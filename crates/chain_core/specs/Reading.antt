@@ -1,8 +1,10 @@
 -- How the text of a log is read: line by line, and word by word.
-use Rattle.std.specs.Prelude.{ℕ, ◌+◌, ◌*◌, ◌≤◌, ◌==◌, ◌&&◌, ◌||◌, nat_lt, nat_le, not, List, [], ◌∷◌, Option, Some, None, Result, Ok, Err, length, slice_index, option_map, codes, if◌then◌else◌, All}
+use Rattle.std.specs.Prelude.{ℕ, ◌+◌, ◌*◌, ◌==◌, ◌&&◌, ◌||◌, nat_lt, nat_le, not, List, [], ◌∷◌, Option, Some, None, Result, Ok, Err, length, slice_index, option_map, codes, if◌then◌else◌}
 use Rattle.std.specs.List.{slice_split}
 use Rattle.std.specs.Str.{all_ascii_digits, bytes_eq}
 use Rattle.std.specs.Str.Parse.{digits_value}
+use Rattle.chain_core.specs.declared.literal.TheConstants.{MOST_PLACE}
+use Rattle.chain_core.specs.declared.number.TheConstants.{MOST_ID}
 use Rattle.chain_core.specs.declared.encoding.Encoding.{Encoding}
 use Rattle.chain_core.specs.declared.encoding.Encoding.TheVariants.{Separation}
 use Rattle.chain_core.specs.declared.fault.LogFault.{LogFault}
@@ -20,7 +22,7 @@ lines_of text = slice_split (λ b. b == 10) text
 -- the number of at most 32 bits that a word writes, in digits without a leading zero
 abbrev pub number_in : List ℕ → Option ℕ
 number_in word =
-    if nat_lt 0 (length word) && all_ascii_digits word && (length word == 1 || not (slice_index word 0 == 48)) && nat_le (digits_value 10 word) 4294967295 then Some (digits_value 10 word)
+    if nat_lt 0 (length word) && all_ascii_digits word && (length word == 1 || not (slice_index word 0 == 48)) && nat_le (digits_value 10 word) MOST_ID then Some (digits_value 10 word)
     else None
 
 -- twice the number that a word writes, and one more where a `-` stands before it: the place of a literal, or 0 at the word `0`
@@ -41,7 +43,7 @@ abbrev pub literals_then : Option ℕ → Option (List ℕ) → Option (List ℕ
 literals_then None hints more = None
 literals_then (Some l) hints more =
     if l == 0 then option_map (λ hs. ([], hs)) hints
-    else (if nat_le 2 l && nat_lt l 4294967296 then option_map (λ m. (l ∷ m.0, m.1)) more else None)
+    else (if nat_le 2 l && nat_le l MOST_PLACE then option_map (λ m. (l ∷ m.0, m.1)) more else None)
 
 -- literals and the word `0`, and then hints
 abbrev pub literals_in : List (List ℕ) → Option (List ℕ × List ℕ)
@@ -89,9 +91,3 @@ log_of_lines (first ∷ next ∷ parts) = log_then (encoding_in first) (lemmas_i
 -- the encoding and the lemmas of a text, or why it is no log; the header is line 1
 abbrev pub log_of : List ℕ → Result (Encoding × List Lemma) LogFault
 log_of text = log_of_lines (lines_of text)
-
--- ids and hints are numbers from 1 of at most 32 bits, and literals have variables from 1 to 2147483647
-pub record IsWritable (lemma : Lemma) : Type 0 where
-  pub id : (1 ≤ lemma.id) × (lemma.id ≤ 4294967295)
-  pub literals : All (λ l. (2 ≤ l) × (l ≤ 4294967295)) lemma.literals
-  pub hints : All (λ h. (1 ≤ h) × (h ≤ 4294967295)) lemma.hints

@@ -6,6 +6,8 @@ ghost use Rattle.lists_core.specs.declared.list_of.TheConstants.{MOST_ITEMS};
 ghost use Rattle.chain_core.specs.Literal.{variable_of};
 ghost use Rattle.chain_core.specs.Cnf.{InRange};
 ghost use Rattle.chain_core.specs.Log.{known_before, lemma_fault, first_fault, refutation_fault, IsRefutation, ends_empty};
+ghost use Rattle.chain_core.specs.Refusal.{IsRefused};
+ghost use Rattle.chain_core.specs.declared.fault.CheckFault.{CheckFault};
 ghost use Rattle.chain_core.specs.declared.fault.CheckFault.TheVariants.{NoMemory};
 ghost use Rattle.chain_core.specs.Truth.{IsUnsatisfiable};
 
@@ -50,12 +52,11 @@ pub fn check(alloc: Global, formula: &Formula, log: Log) -> Result<Accepted, Che
     ensures answer { MatchResult result (λ accepted. (accepted ≡ log) × IsRefutation formula.now log)
         (λ fault. (fault ≡ NoMemory) ⊎ (refutation_fault formula.now log ≡ Some fault)) }
     ensures exact { (refutation_fault formula.now log ≡ None) ↔ IsRefutation formula.now log }
+    ensures cause { (fault : CheckFault) → (refutation_fault formula.now log ≡ Some fault) ↔ IsRefused formula.now log fault }
     ensures unsatisfiable { OnOk result (IsUnsatisfiable formula.now) }
 {
     let places = 2 * formula.variables() as usize + 2;
-    let Ok(mut stamps) = Vec::from_elem(alloc, 0u32, places) else {
-        return Err(CheckFault::NoMemory);
-    };
+    let mut stamps = Vec::from_elem(alloc, 0u32, places)?;
     check_lines(formula, &log, stamps.as_mut_slice())?;
     if has_empty_end(&log) {
         Ok(Accepted { log })

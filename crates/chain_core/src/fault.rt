@@ -1,5 +1,7 @@
 //! Why a text is no log, and why a log is no refutation.
+ghost use Rattle.std.specs.Prelude.{◌≡◌};
 
+use std::alloc::{AllocError, AllocFailed};
 use thiserror::Error;
 
 /// Why a text is no log.
@@ -39,4 +41,34 @@ pub enum CheckFault {
     /// The allocator gave no memory.
     #[error("out of memory")]
     NoMemory,
+}
+
+impl From<AllocError> for LogFault {
+    ghost use Rattle.chain_core.specs.declared.fault.LogFault.TheVariants.{NoMemory};
+
+    ghost from_gives = { λ _ fault. fault ≡ NoMemory };
+
+    fn from(_error: AllocError) -> LogFault {
+        LogFault::NoMemory
+    }
+}
+
+impl<T: Drop> From<AllocFailed<T>> for LogFault {
+    ghost use Rattle.chain_core.specs.declared.fault.LogFault.TheVariants.{NoMemory};
+
+    ghost from_gives = { λ _ fault. fault ≡ NoMemory };
+
+    fn from(_failed: AllocFailed<T>) -> LogFault {
+        LogFault::NoMemory
+    }
+}
+
+impl From<AllocError> for CheckFault {
+    ghost use Rattle.chain_core.specs.declared.fault.CheckFault.TheVariants.{NoMemory};
+
+    ghost from_gives = { λ _ fault. fault ≡ NoMemory };
+
+    fn from(_error: AllocError) -> CheckFault {
+        CheckFault::NoMemory
+    }
 }

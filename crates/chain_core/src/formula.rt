@@ -4,13 +4,10 @@ ghost use Rattle.chain_core.specs.Literal.{variable_of};
 ghost use Rattle.chain_core.specs.Chain.{clause_at};
 ghost use Rattle.chain_core.specs.Cnf.{InRange};
 
-use crate::literal::Literal;
+use crate::literal::{Literal, MOST_VARIABLES};
 use rows_core::Rows;
 use std::alloc::{AllocError, Global};
 use std::marker::Model;
-
-/// The greatest variable, so that twice a variable and one more fits 32 bits.
-pub const MOST_VARIABLES: u32 = 2_147_483_647;
 
 /// The most clauses of a formula: their ids, and those of two billion lemmas after them, fit 32 bits.
 /// A longer log is refused at the first lemma whose id doesn't fit.
@@ -26,7 +23,8 @@ pub struct Formula {
 impl Model for Formula {
     ghost use Rattle.std.specs.Prelude.{length, ◌≤◌};
     ghost use Rattle.chain_core.specs.Cnf.{Cnf, InRange};
-    ghost use Rattle.chain_core.specs.declared.formula.TheConstants.{MOST_VARIABLES, MOST_CLAUSES};
+    ghost use Rattle.chain_core.specs.declared.literal.TheConstants.{MOST_VARIABLES};
+    ghost use Rattle.chain_core.specs.declared.formula.TheConstants.{MOST_CLAUSES};
 
     ghost Value = { Cnf };
 

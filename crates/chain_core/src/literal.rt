@@ -4,7 +4,13 @@ ghost use Rattle.chain_core.specs.Literal.{negation, variable_of, has_minus, num
 
 use std::marker::Model;
 
-/// A variable from 1 to 2147483647 and a sign.
+/// The greatest variable, so that twice a variable and one more fits 32 bits.
+pub const MOST_VARIABLES: u32 = 2_147_483_647;
+
+/// The greatest place: twice the greatest variable, and one more.
+pub const MOST_PLACE: u32 = 4_294_967_295;
+
+/// A variable from 1 to [`MOST_VARIABLES`] and a sign.
 ///
 /// Contracts see its place: twice its variable, and one more where its sign is minus.
 #[derive(Clone, Copy, PartialEq, Eq)]
@@ -29,7 +35,7 @@ impl Literal {
     /// exactly for 0 and the least number.
     pub fn of(number: i32) -> Option<Literal>
         ensures value { IfSome result (λ l. number_of l ≡ number) }
-        ensures none { IsNone result ↔ ((number ≡ pos 0) ⊎ (number ≡ negsuc 2147483647)) }
+        ensures none { IsNone result ↔ ((number ≡ pos 0) ⊎ (number ≡ negsuc MOST_VARIABLES)) }
     {
         if number > 0 {
             Some(Literal {
@@ -75,7 +81,7 @@ impl Literal {
     pub fn variable(self) -> u32
         ensures value { result ≡ variable_of self }
         ensures least { 1 ≤ result }
-        ensures most { result ≤ 2147483647 }
+        ensures most { result ≤ MOST_VARIABLES }
     {
         self.place / 2
     }

@@ -1,12 +1,12 @@
 //! The word at the front of a text, as a number or as a literal.
-ghost use Rattle.std.specs.Prelude.{◌≡◌, ◌≢◌, ◌==◌, ◌∷◌, ◌||◌, not, ◌<◌, ◌≤◌, length, min, take, slice_index, MatchOption, false, ⊤};
+ghost use Rattle.std.specs.Prelude.{◌≡◌, ◌≢◌, ◌==◌, ◌∷◌, ◌||◌, not, ◌+◌, ◌<◌, ◌≤◌, length, min, take, slice_index, MatchOption, false, ⊤};
 ghost use Rattle.std.specs.Char.{is_ascii_digit};
 ghost use Rattle.std.specs.Str.Parse.{AllDigits, digits_value};
 ghost use Rattle.chain_core.specs.Reading.{number_in, place_in};
 ghost use Rattle.chain_core.specs.Front.{StartsWith, StartsWithOther};
 
-/// The greatest id.
-const MOST_ID: u64 = 4_294_967_295;
+/// The greatest id, so that ids fit 32 bits.
+pub const MOST_ID: u64 = 4_294_967_295;
 
 /// A word that was read: its value, and how many bytes it has.
 #[derive(Clone, Copy)]
@@ -18,7 +18,7 @@ pub struct Front {
 /// The number that the first word of a text writes.
 pub fn front_number(text: &[u8]) -> Option<Front>
     ensures word { MatchOption result (StartsWithOther number_in text.now) (λ f. StartsWith number_in text.now f.value f.len) }
-    ensures few { MatchOption result ⊤ (λ f. f.value ≤ 4294967295) }
+    ensures few { MatchOption result ⊤ (λ f. f.value ≤ MOST_ID) }
 {
     let digits = front_digits(text);
     let len = digits.len;
@@ -70,7 +70,7 @@ fn front_digits(text: &[u8]) -> Front
     ensures within { result.len ≤ length text.now }
     ensures digits { AllDigits 10 (take result.len text.now) }
     ensures stops { result.len < length text.now → is_ascii_digit (slice_index text.now result.len) ≡ false }
-    ensures value { result.value ≡ min (digits_value 10 (take result.len text.now)) 4294967296 }
+    ensures value { result.value ≡ min (digits_value 10 (take result.len text.now)) (MOST_ID + 1) }
 {
     let mut value: u64 = 0;
     let mut len = 0;
@@ -100,9 +100,9 @@ fn has_leading_zero(word: &[u8]) -> bool
 /// The number of a word of digits, whose value is given, where it has no leading zero and fits an id.
 fn number_of(word: &[u8], value: u64) -> Option<u64>
     requires digits { AllDigits 10 word.now }
-    requires value { value ≡ min (digits_value 10 word.now) 4294967296 }
+    requires value { value ≡ min (digits_value 10 word.now) (MOST_ID + 1) }
     ensures number { result ≡ number_in word.now }
-    ensures few { MatchOption result ⊤ (λ n. n ≤ 4294967295) }
+    ensures few { MatchOption result ⊤ (λ n. n ≤ MOST_ID) }
 {
     if word.is_empty() {
         return None;

@@ -1,16 +1,18 @@
 //! Logs are read from their texts.
 ghost use Rattle.std.specs.Prelude.{◌≡◌, ◌==◌, ◌⊎◌, ◌+◌, ◌<◌, ◌≤◌, ℕ, List, [], ◌∷◌, ◌++◌, ◌↔◌, All, length, drop, vec_len, MatchResult, IfOk, Ok, Err, Some, None, option_map, position};
 ghost use Rattle.lists_core.specs.declared.list_of.TheConstants.{MOST_ITEMS};
-ghost use Rattle.chain_core.specs.Lemma.{IsNumbered};
-ghost use Rattle.chain_core.specs.Reading.{words_of, lines_of, hints_in, literals_in, lemma_in, lemmas_in, encoding_in, log_of, IsWritable};
+ghost use Rattle.chain_core.specs.Lemma.{IsNumbered, IsWritable};
+ghost use Rattle.chain_core.specs.Reading.{words_of, lines_of, hints_in, literals_in, lemma_in, lemmas_in, encoding_in, log_of};
 ghost use Rattle.chain_core.specs.Text.{log_text};
 ghost use Rattle.chain_core.specs.declared.encoding.Encoding.{Encoding};
 ghost use Rattle.chain_core.specs.declared.log.Lemma.{Lemma};
+ghost use Rattle.chain_core.specs.Unread.{IsUnread};
+ghost use Rattle.chain_core.specs.declared.fault.LogFault.{LogFault};
 ghost use Rattle.chain_core.specs.declared.fault.LogFault.TheVariants.{Shape, NoMemory};
 
 use crate::encoding::Encoding;
 use crate::fault::LogFault;
-use crate::literal::Literal;
+use crate::literal::{Literal, MOST_PLACE};
 use crate::log::{Lemma, Log};
 use crate::number::{front_number, front_place};
 use lists_core::ListOf;
@@ -18,9 +20,6 @@ use std::alloc::{AllocError, Global};
 
 /// The most bytes of a text that is read: 64 MiB.
 pub const MOST_BYTES: usize = 67_108_864;
-
-/// The first place of no literal: one more than the place of the last.
-const PLACES: u64 = 4_294_967_296;
 
 /// Reads the text of a log: its encoding and its lemmas.
 pub fn read_log(alloc: Global, bytes: &[u8]) -> Result<(Encoding, Log), LogFault>
@@ -31,6 +30,9 @@ pub fn read_log(alloc: Global, bytes: &[u8]) -> Result<(Encoding, Log), LogFault
     // It is read exactly where it is the text of an encoding and of lemmas with numbers in their limits.
     ensures text { (encoding : Encoding) (log : List Lemma)
         → (log_of bytes.now ≡ Ok (encoding, log)) ↔ ((bytes.now ≡ log_text encoding log) × All IsWritable log) }
+
+    // And refused where it does not begin with the line of an encoding, or at the first line after that is not a lemma's.
+    ensures cause { (fault : LogFault) → (log_of bytes.now ≡ Err fault) ↔ IsUnread bytes.now fault }
 {
     let Some(end) = line_end(bytes) else {
         return Err(LogFault::Header);
@@ -79,9 +81,7 @@ fn read_lemmas(alloc: Global, bytes: &[u8], from: usize) -> Result<Log, LogFault
         };
         let text = &rest[..len];
         let lemma = read_lemma(alloc, text, line, &mut literals, &mut hints)?;
-        if log.add(lemma).is_err() {
-            return Err(LogFault::NoMemory);
-        }
+        log.add(lemma)?;
         at += len + 1;
         line += 1;
     }
@@ -114,16 +114,10 @@ fn read_lemma(
     }
     let next = read_literals(text, id.len + 1, line, literals)?;
     read_hints(text, next, line, hints)?;
-    let Ok(literals) = exact_list(alloc, literals.as_slice()) else {
-        return Err(LogFault::NoMemory);
-    };
-    let Ok(hints) = exact_list(alloc, hints.as_slice()) else {
-        return Err(LogFault::NoMemory);
-    };
     Ok(Lemma {
         id: id.value as u32,
-        literals,
-        hints,
+        literals: exact_list(alloc, literals.as_slice())?,
+        hints: exact_list(alloc, hints.as_slice())?,
     })
 }
 
@@ -154,12 +148,10 @@ fn read_literals(
         if word.value == 0 {
             return Ok(end + 1);
         }
-        if word.value < 2 || word.value >= PLACES {
+        if word.value < 2 || word.value > u64::from(MOST_PLACE) {
             return Err(LogFault::Shape(line));
         }
-        if literals.push(Literal::at(word.value as u32)).is_err() {
-            return Err(LogFault::NoMemory);
-        }
+        literals.push(Literal::at(word.value as u32))?;
         at = end + 1;
     }
 }
@@ -188,9 +180,7 @@ fn read_hints(text: &[u8], from: usize, line: u32, hints: &mut Vec<u32>) -> Resu
         if end == text.len() {
             return Err(LogFault::Shape(line));
         }
-        if hints.push(word.value as u32).is_err() {
-            return Err(LogFault::NoMemory);
-        }
+        hints.push(word.value as u32)?;
         at = end + 1;
     }
 }

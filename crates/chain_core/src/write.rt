@@ -2,8 +2,10 @@
 ghost use Rattle.std.specs.Prelude.{◌≡◌, [], ◌∷◌, ◌++◌, ◌≤◌, codes, decimal, All, OnOk, Ok};
 ghost use Rattle.std.specs.List.{flat_map};
 ghost use Rattle.lists_core.specs.Puts.{Puts};
-ghost use Rattle.chain_core.specs.Lemma.{IsNumbered};
-ghost use Rattle.chain_core.specs.Reading.{log_of, IsWritable};
+ghost use Rattle.chain_core.specs.Literal.{IsPlace};
+ghost use Rattle.chain_core.specs.Lemma.{IsNumbered, IsWritable};
+ghost use Rattle.chain_core.specs.Reading.{log_of};
+ghost use Rattle.chain_core.specs.declared.number.TheConstants.{MOST_ID};
 ghost use Rattle.chain_core.specs.Text.{line_of, sign_text, literal_word, size_words, clause_words, dimacs_text, lemma_words, header_words, log_text};
 
 use crate::encoding::Encoding;
@@ -94,7 +96,7 @@ fn put_lemma(lemma: &Lemma, out: &mut Vec<u8>) -> Result<(), AllocError>
 /// Appends literals, with a space after each.
 fn put_literals(literals: &[Literal], out: &mut Vec<u8>) -> Result<(), AllocError>
     ensures text { Puts out.old.items out.new.items result (flat_map (λ l. literal_word l ++ 32 ∷ []) literals.now) }
-    ensures reach { OnOk result (All (λ l. (2 ≤ l) × (l ≤ 4294967295)) literals.now) }
+    ensures reach { OnOk result (All IsPlace literals.now) }
 {
     for literal in literals {
         put_literal(*literal, out)?;
@@ -105,7 +107,7 @@ fn put_literals(literals: &[Literal], out: &mut Vec<u8>) -> Result<(), AllocErro
 /// Appends a literal and a space.
 fn put_literal(literal: Literal, out: &mut Vec<u8>) -> Result<(), AllocError>
     ensures text { Puts out.old.items out.new.items result (literal_word literal ++ 32 ∷ []) }
-    ensures reach { OnOk result ((2 ≤ literal) × (literal ≤ 4294967295)) }
+    ensures reach { OnOk result (IsPlace literal) }
 {
     put_sign(literal, out)?;
     put_id(literal.variable(), out)
@@ -125,7 +127,7 @@ fn put_sign(literal: Literal, out: &mut Vec<u8>) -> Result<(), AllocError>
 /// Appends ids, with a space after each.
 fn put_ids(ids: &[u32], out: &mut Vec<u8>) -> Result<(), AllocError>
     ensures text { Puts out.old.items out.new.items result (flat_map (λ id. decimal id ++ 32 ∷ []) ids.now) }
-    ensures reach { OnOk result (All (λ id. id ≤ 4294967295) ids.now) }
+    ensures reach { OnOk result (All (λ id. id ≤ MOST_ID) ids.now) }
 {
     for id in ids {
         put_id(*id, out)?;
@@ -136,7 +138,7 @@ fn put_ids(ids: &[u32], out: &mut Vec<u8>) -> Result<(), AllocError>
 /// Appends an id and a space.
 fn put_id(id: u32, out: &mut Vec<u8>) -> Result<(), AllocError>
     ensures text { Puts out.old.items out.new.items result (decimal id ++ 32 ∷ []) }
-    ensures reach { id ≤ 4294967295 }
+    ensures reach { id ≤ MOST_ID }
 {
     put_number(id, out)?;
     put_text(b" ", out)

@@ -6,15 +6,19 @@ use Rattle.chain_core.proofs.chain.standing_of.Goals as goal
 use Rattle.chain_core.proofs.chain.standing_of.Goals.{then-stamps-place+in-None, then-stamps-place+in-Some+else-ne, else-stamps-place}
 
 pub returns-then-ne-clause-answer : goal.returns-then-ne-clause-answer
-returns-then-ne-clause-answer c = λ next. turn_other c.args.stamps.now c.args.stamp c.loop-literal.found c.args.clause.now _ _ c.place.result c.in-Some.other next _ c.loop-literal-test.true c.literal-item.is c.place.ensures c.if-stamps-place.true c.in-Some.is c.if-ne.ensures (c.loop-literal.invariant.answer next)
+returns-then-ne-clause-answer c = λ next.
+    turn_other c.args.stamps.now c.args.stamp c.args.clause.now _ _ c.place.result next _ c.loop-literal-test.true c.literal-item.is c.place.ensures c.loop-literal.found c.in-Some.other c.if-stamps-place.true c.in-Some.is c.if-ne.ensures (c.loop-literal.invariant.answer next)
 
 pub loop-literal-preserved : goal.loop-literal-preserved
 loop-literal-preserved c = record {
-  answer = λ next. elim c.if-stamps-place.branch [
-    | then-stamps-place+in-None w ↦ turn_first c.args.stamps.now c.args.stamp c.loop-literal.found c.if-stamps-place.found c.args.clause.now _ _ c.place.result next _ c.loop-literal-test.true c.literal-item.is c.place.ensures w.if-stamps-place.true w.in-None.is w.found-is (c.loop-literal.invariant.answer next)
-    | then-stamps-place+in-Some+else-ne w ↦ turn_same c.args.stamps.now c.args.stamp c.loop-literal.found c.if-stamps-place.found c.args.clause.now _ _ c.place.result w.in-Some.other next _ c.loop-literal-test.true c.literal-item.is c.place.ensures w.if-stamps-place.true w.in-Some.is w.found-is w.if-ne.ensures (c.loop-literal.invariant.answer next)
-    | else-stamps-place w ↦ turn_skip c.args.stamps.now c.args.stamp c.loop-literal.found c.if-stamps-place.found c.args.clause.now _ _ c.place.result next _ c.loop-literal-test.true c.literal-item.is c.place.ensures w.if-stamps-place.false w.found-is (c.loop-literal.invariant.answer next)
-  ];
+  answer = λ next.
+      let read = c.literal-item.is in
+      let before = c.loop-literal.invariant.answer next in
+      elim c.if-stamps-place.branch [
+        | then-stamps-place+in-None w ↦ turn_first c.args.stamps.now c.args.stamp c.args.clause.now _ _ c.place.result next _ c.loop-literal-test.true read c.place.ensures c.loop-literal.found c.if-stamps-place.found w.if-stamps-place.true w.in-None.is w.found-is before
+        | then-stamps-place+in-Some+else-ne w ↦ turn_same c.args.stamps.now c.args.stamp c.args.clause.now _ _ c.place.result next _ c.loop-literal-test.true read c.place.ensures c.loop-literal.found c.if-stamps-place.found w.in-Some.other w.if-stamps-place.true w.in-Some.is w.found-is w.if-ne.ensures before
+        | else-stamps-place w ↦ turn_skip c.args.stamps.now c.args.stamp c.args.clause.now _ _ c.place.result next _ c.loop-literal-test.true read c.place.ensures c.loop-literal.found c.if-stamps-place.found w.if-stamps-place.false w.found-is before
+      ];
   among =
       let P = λ (f : Option ℕ). IfSome f (Contains c.args.clause.now) in
       elim c.if-stamps-place.branch [

@@ -9,5 +9,5 @@ returns-clause-numbered c =
     let some = c.if-id-eq0.false in
     record {
       id = omega (arith, some);
-      hints = list_positive c.in-Ok-exact_list.hints _ read.0 (words_of (drop c.in_ok-next.next c.args.text.now)) (c.in-Ok-exact_list.ensures ∙ c.as_slice-2.ensures.value) (read.1 ∙ ap (λ xs. xs ++ read.0) c.clear-2.ensures.items) read.2;
+      hints = list_positive _ _ read.0 (words_of (drop c.in_ok-next.next c.args.text.now)) (c.in_ok-exact_list-2.ensures ∙ c.as_slice-2.ensures.value) (read.1 ∙ ap (λ xs. xs ++ read.0) c.clear-2.ensures.items) read.2;
     }

@@ -1,11 +1,12 @@
 use Rattle.std.proofs.Common.{◌≡◌, [], ◌∷◌, ◌++◌, ◌≤◌, take}
 use Rattle.std.specs.List.{All, flat_map}
 use Rattle.std.specs.Prelude.{decimal}
+use Rattle.chain_core.specs.declared.number.TheConstants.{MOST_ID}
 use Rattle.chain_core.proofs.write.put_ids.Given as goal
 
 -- what was put so far
 abbrev pub invariant-loop-id : goal.invariant-loop-id
 invariant-loop-id l = record {
   text : l.out.items ≡ l.initial.out.items ++ flat_map (λ x. decimal x ++ 32 ∷ []) (take l.id-index l.ids);
-  reach : All (λ x. x ≤ 4294967295) (take l.id-index l.ids);
+  reach : All (λ x. x ≤ MOST_ID) (take l.id-index l.ids);
 }

@@ -1,6 +1,6 @@
 use Rattle.std.proofs.Common.{◌≡◌, ◌++◌, take}
 use Rattle.std.specs.List.{All, flat_map}
-use Rattle.chain_core.specs.Reading.{IsWritable}
+use Rattle.chain_core.specs.Lemma.{IsWritable}
 use Rattle.chain_core.specs.Text.{line_of, lemma_words}
 use Rattle.chain_core.proofs.write.put_lemmas.Given as goal
 

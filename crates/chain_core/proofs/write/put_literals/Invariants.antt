@@ -1,11 +1,12 @@
-use Rattle.std.proofs.Common.{◌≡◌, [], ◌∷◌, ◌++◌, ◌≤◌, take}
+use Rattle.std.proofs.Common.{◌≡◌, [], ◌∷◌, ◌++◌, take}
 use Rattle.std.specs.List.{All, flat_map}
 use Rattle.chain_core.specs.Text.{literal_word}
+use Rattle.chain_core.specs.Literal.{IsPlace}
 use Rattle.chain_core.proofs.write.put_literals.Given as goal
 
 -- what was put so far
 abbrev pub invariant-loop-literal : goal.invariant-loop-literal
 invariant-loop-literal l = record {
   text : l.out.items ≡ l.initial.out.items ++ flat_map (λ x. literal_word x ++ 32 ∷ []) (take l.literal-index l.literals);
-  reach : All (λ x. (2 ≤ x) × (x ≤ 4294967295)) (take l.literal-index l.literals);
+  reach : All IsPlace (take l.literal-index l.literals);
 }
