@@ -7,5 +7,4 @@ pub mod NameFacts
 pub mod PieceFacts
 pub mod WrittenFacts
 pub mod RowFacts
-pub mod OpenFacts
 pub mod RowsFacts

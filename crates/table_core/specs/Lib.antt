@@ -3,6 +3,7 @@ pub mod Records
 pub mod Header
 pub mod Row
 pub mod Table
+pub mod Advance
 pub mod Rows
 pub mod Answers
 pub mod Written
