@@ -1,4 +1,4 @@
-//! The sorting rule, in definitions alone: preference, coalitions, the category, models that restore examples.
+//! The sorting rule, in definitions and laws: preference, coalitions, the category, models that restore examples.
 #![tactic(auto)]
 
 ghost use Rattle.std.specs.Prelude.{◌≡◌, ◌≢◌, ◌≤◌, ℕ, ℤ, true, List, Contains};
@@ -6,9 +6,10 @@ ghost use Rattle.sorting_rule.specs.Preference.{Direction, accepts};
 ghost use Rattle.sorting_rule.specs.Model.{Profile, Model, threshold_at, category, IsCategory};
 ghost use Rattle.sorting_rule.specs.Examples.{Example, HasOrderedThresholds, HasNoModel};
 
-/// A law, with no code: the rule's category is the greatest boundary that is reached, or 0 where none is.
+/// A law, with no code: the rule's category, and no other number, is the greatest boundary that is reached, or 0 where none is.
 pub fn category_is_the_greatest_reached()
-    ensures { (m : Model) (grades : List ℤ) → IsCategory m grades (category m grades) }
+    ensures greatest { (m : Model) (grades : List ℤ) → IsCategory m grades (category m grades) }
+    ensures only { (m : Model) (grades : List ℤ) (c : ℕ) → IsCategory m grades c → category m grades ≡ c }
 {}
 
 /// A law: under ordered thresholds a grade that is accepted at a boundary is accepted at each lower one.
