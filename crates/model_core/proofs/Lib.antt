@@ -5,4 +5,5 @@ pub mod CategoryLemmas
 pub mod OrderLemmas
 pub mod ThresholdLemmas
 pub mod RootLemmas
+pub mod SetLemmas
 pub mod BelongsLemmas
