@@ -11,8 +11,9 @@ use Rattle.std.proofs.lemmas.Bool.Decides.{eqb_tells, leb_tells}
 use Rattle.arena_core.specs.Chains.{put_first, taken_out}
 use Rattle.watch_core.specs.Places.{opposite_place, is_true, is_false}
 use Rattle.watch_core.specs.Trail.{Entry, Assignment, IsTrail, places, cut, waiting, entered, assigned, one_taken}
-use Rattle.watch_core.specs.Settled.{SettledBelow, IsAtRest, IsReason}
-use Rattle.watch_core.specs.Cover.{clause_of, watched_at, HasTrue, AllCovered, IsCovered, IsPropagating, AreReordered, Propagates}
+use Rattle.watch_core.specs.Settled.{SettledBelow, IsAtRest}
+use Rattle.watch_core.specs.Cover.{clause_of, watched_at, HasTrue, AllCovered, IsCovered, IsPropagating}
+use Rattle.watch_core.specs.Propagates.{AreReordered, Propagates, IsReason}
 use Rattle.watch_core.proofs.Assign.{not_eqb}
 use Rattle.watch_core.proofs.Levels.{cut_all, cut_none, left_out, kept_in}
 use Rattle.watch_core.proofs.Watches.{watches_moved, places_kept}
@@ -169,13 +170,13 @@ going_taken {L} at clauses chains t e rest h first lt walked =
 
 -- Propagates
 pub goes_same : {L : Type 0} (at : L → ℕ) (clauses : List (List ℕ)) (t : Assignment L) → Propagates at clauses t clauses t
-goes_same at clauses t = record { order = only_same clauses; level = refl; variables = refl; more = omega arith; kept = take_all (length t.entries) t.entries (omega arith); current = λ i e a b. absurd (omega (arith, a, b)); reasons = λ i e a b. absurd (omega (arith, a, b)) }
+goes_same at clauses t = record { order = only_same clauses; level = refl; variables = refl; taken = omega arith; more = omega arith; kept = take_all (length t.entries) t.entries (omega arith); current = λ i e a b. absurd (omega (arith, a, b)); reasons = λ i e a b. absurd (omega (arith, a, b)) }
 
 pub goes_order : {L : Type 0} (at : L → ℕ) (clauses clauses' : List (List ℕ)) (t : Assignment L) → AreReordered clauses clauses' → Propagates at clauses t clauses' t
-goes_order at clauses clauses' t o = record { order = o; level = refl; variables = refl; more = omega arith; kept = take_all (length t.entries) t.entries (omega arith); current = λ i e a b. absurd (omega (arith, a, b)); reasons = λ i e a b. absurd (omega (arith, a, b)) }
+goes_order at clauses clauses' t o = record { order = o; level = refl; variables = refl; taken = omega arith; more = omega arith; kept = take_all (length t.entries) t.entries (omega arith); current = λ i e a b. absurd (omega (arith, a, b)); reasons = λ i e a b. absurd (omega (arith, a, b)) }
 
 pub goes_taken : {L : Type 0} (at : L → ℕ) (clauses : List (List ℕ)) (t : Assignment L) → Propagates at clauses t clauses (one_taken t)
-goes_taken at clauses t = record { order = only_same clauses; level = refl; variables = refl; more = omega arith; kept = take_all (length t.entries) t.entries (omega arith); current = λ i e a b. absurd (omega (arith, a, b)); reasons = λ i e a b. absurd (omega (arith, a, b)) }
+goes_taken at clauses t = record { order = only_same clauses; level = refl; variables = refl; taken = omega arith; more = omega arith; kept = take_all (length t.entries) t.entries (omega arith); current = λ i e a b. absurd (omega (arith, a, b)); reasons = λ i e a b. absurd (omega (arith, a, b)) }
 
 pub goes_assigned : {L : Type 0} (at : L → ℕ) (clauses : List (List ℕ)) (t : Assignment L) (l : L) (id : ℕ) → id < length clauses → Contains (get_or clauses id []) (at l) → ((x : ℕ) → Contains (get_or clauses id []) x → x ≢ at l → is_false (places at t.entries) x ≡ true) → Propagates at clauses t clauses (assigned t l (Some id))
 goes_assigned {L} at clauses t l id known has rest =
@@ -186,6 +187,7 @@ goes_assigned {L} at clauses t l id known has rest =
       order = only_same clauses;
       level = refl;
       variables = refl;
+      taken = omega arith;
       more = omega (arith, size);
       kept = take_at t.entries (e ∷ []) (length t.entries) refl;
       current = λ i d a b. ap (λ (x : Entry L). x.level) (here i d a b);
@@ -225,6 +227,7 @@ goes_trans {L} at a b c t t' t'' x y =
       order = only_trans a b c x.order y.order;
       level = y.level ∙ x.level;
       variables = y.variables ∙ x.variables;
+      taken = omega (arith, x.taken, y.taken);
       more = omega (arith, x.more, y.more);
       kept = sym (take-take (length t.entries) (length t'.entries) t''.entries x.more) ∙ ap (take (length t.entries)) y.kept ∙ x.kept;
       current = λ i d ln lt. elim (cases_lt i (length t'.entries)) [

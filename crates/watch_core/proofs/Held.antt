@@ -11,7 +11,8 @@ use Rattle.arena_core.specs.Chains.{chain_at}
 use Rattle.watch_core.specs.Places.{opposite_place, is_true, is_false, open_literals, placed}
 use Rattle.watch_core.specs.Trail.{Entry, Assignment, IsTrail, places, cut, waiting, value_of, entered, undone, empty_trail}
 use Rattle.watch_core.specs.Settled.{IsFalseClause, IsSettled, CanPropagate, Outcome}
-use Rattle.watch_core.specs.Cover.{clause_of, beside, HasTrue, AllBut, AllCovered, IsCovered, IsPropagating, Propagates}
+use Rattle.watch_core.specs.Cover.{clause_of, beside, HasTrue, AllBut, AllCovered, IsCovered, IsPropagating}
+use Rattle.watch_core.specs.Propagates.{Propagates}
 use Rattle.watch_core.specs.Watched.{IsHeld}
 use Rattle.watch_core.proofs.Assign.{value_none}
 use Rattle.watch_core.proofs.Levels.{cut_all, cut_cut, cut_is, waits_cut}

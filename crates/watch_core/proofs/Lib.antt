@@ -10,5 +10,4 @@ pub mod Visit
 pub mod Held
 pub mod Adds
 pub mod Looks
-pub mod SixClauses
-pub mod Ready
+pub mod ReadyLemmas

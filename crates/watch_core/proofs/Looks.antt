@@ -15,7 +15,8 @@ use Rattle.watch_core.specs.Places.{opposite_place}
 use Rattle.watch_core.specs.Trail.{Entry, Assignment, places, waiting, order, one_taken}
 use Rattle.watch_core.proofs.Visit.{first_is}
 use Rattle.std.proofs.lemmas.List.Sorted.{sum_by-IsPermutation}
-use Rattle.watch_core.specs.Cover.{Watches, AreReordered, Propagates}
+use Rattle.watch_core.specs.Cover.{Watches}
+use Rattle.watch_core.specs.Propagates.{AreReordered, Propagates}
 use Rattle.watch_core.proofs.Assign.{not_eqb}
 
 -- the seats of one clause that watch a literal

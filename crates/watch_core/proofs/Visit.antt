@@ -10,7 +10,8 @@ use Rattle.arena_core.specs.Chains.{chain_at, put_first, taken_out, others, AreA
 use Rattle.watch_core.specs.Places.{opposite_place, is_true, is_false, placed}
 use Rattle.watch_core.specs.Trail.{Entry, Assignment, IsTrail, places, waiting, assigned, order, one_taken}
 use Rattle.watch_core.specs.Settled.{IsClauseFalse, IsFalseClause}
-use Rattle.watch_core.specs.Cover.{clause_of, watched_at, beside, Watches, HasTrue, IsPropagating, AreReordered, Propagates}
+use Rattle.watch_core.specs.Cover.{clause_of, watched_at, beside, Watches, HasTrue, IsPropagating}
+use Rattle.watch_core.specs.Propagates.{AreReordered, Propagates}
 use Rattle.watch_core.specs.Walk.{IsSeat, AllWalked, Visited}
 use Rattle.watch_core.specs.declared.walk.Visit.{Visit}
 use Rattle.watch_core.specs.declared.walk.Visit.TheVariants.{Stays, Moved, False}

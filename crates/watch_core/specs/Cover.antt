@@ -1,10 +1,9 @@
 -- What holds of watched literals. Clauses are lists of places here.
-use Rattle.std.specs.Prelude.{ℕ, ◌≡◌, ◌≢◌, ◌-◌, ◌*◌, ◌/◌, ◌%◌, ◌<◌, ◌≤◌, ◌==◌, Bool, true, false, List, [], length, take, All, Some, Contains, slice_index_or, ◌⊎◌, IsPermutation}
+use Rattle.std.specs.Prelude.{ℕ, ◌≡◌, ◌≢◌, ◌-◌, ◌*◌, ◌/◌, ◌%◌, ◌<◌, ◌≤◌, ◌==◌, Bool, true, false, List, [], length, All, Contains, slice_index_or, ◌⊎◌}
 use Rattle.std.specs.List.{IsDistinct}
 use Rattle.arena_core.specs.Chains.{chain_at}
 use Rattle.watch_core.specs.Places.{is_true, is_false}
 use Rattle.watch_core.specs.Trail.{Assignment, Entry, IsTrail, places, cut, waiting}
-use Rattle.watch_core.specs.Settled.{IsReason}
 
 -- the clause of a seat, the literal at its side, and the one at the other side
 abbrev pub clause_of : List (List ℕ) → ℕ → List ℕ
@@ -64,18 +63,3 @@ pub record IsCovered {L : Type 0} (strong : Bool) (at : L → ℕ) (clauses chai
 pub record IsPropagating {L : Type 0} (at : L → ℕ) (clauses chains : List (List ℕ)) (t : Assignment L) : Type 0 where
   pub covers : IsCovered true at clauses chains t
   pub current : All (λ (e : Entry L). e.level ≡ t.level) (waiting t)
-
--- clauses change only the order of their literals
-pub record AreReordered {A : Type 0} (clauses clauses' : List (List A)) : Type 0 where
-  pub count : length clauses' ≡ length clauses
-  pub same : (c : ℕ) → IsPermutation (slice_index_or clauses c []) (slice_index_or clauses' c [])
-
--- what propagation does: the trail's old entries stay, and each new one has a reason
-pub record Propagates {L : Type 0} (at : L → ℕ) (clauses : List (List ℕ)) (t : Assignment L) (clauses' : List (List ℕ)) (t' : Assignment L) : Type 0 where
-  pub order : AreReordered clauses clauses'
-  pub level : t'.level ≡ t.level
-  pub variables : t'.variables ≡ t.variables
-  pub more : length t.entries ≤ length t'.entries
-  pub kept : take (length t.entries) t'.entries ≡ t.entries
-  pub current : (i : ℕ) (e : Entry L) → length t.entries ≤ i → i < length t'.entries → (slice_index_or t'.entries i e).level ≡ t.level
-  pub reasons : (i : ℕ) (e : Entry L) → length t.entries ≤ i → i < length t'.entries → (id : ℕ) × ((slice_index_or t'.entries i e).reason ≡ Some id) × IsReason at t' clauses' i id

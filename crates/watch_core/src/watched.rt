@@ -6,7 +6,7 @@ ghost use Rattle.arena_core.specs.declared.lit.TheConstants.{MOST_VARIABLES};
 ghost use Rattle.watch_core.specs.Places.{placed};
 ghost use Rattle.watch_core.specs.Trail.{IsTrail, places, waiting, value_of, assigned, decided, undone, empty_trail};
 ghost use Rattle.watch_core.specs.Settled.{CanPropagate, Outcome};
-ghost use Rattle.watch_core.specs.Cover.{Propagates, AreReordered};
+ghost use Rattle.watch_core.specs.Propagates.{Propagates, AreReordered};
 ghost use Rattle.watch_core.specs.Looks.{false_occurrences};
 ghost use Rattle.watch_core.specs.Watched.{Clauses};
 ghost use Rattle.watch_core.specs.Added.{CanAdd, standing_of};

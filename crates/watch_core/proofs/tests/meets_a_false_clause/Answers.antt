@@ -1,7 +1,16 @@
-use Rattle.std.proofs.Common.{◌∙◌, ap}
+use Rattle.std.proofs.Common.{◌≡◌, ℕ, ◌≤◌, List, sym, subst, arith}
+use Rattle.arena_core.specs.declared.lit.TheConstants.{MOST_VARIABLES}
 use Rattle.watch_core.specs.Places.{placed}
-use Rattle.watch_core.proofs.SixClauses.{all_added, can_propagate}
+use Rattle.watch_core.specs.Trail.{Assignment, decided, empty_trail}
+use Rattle.watch_core.specs.Settled.{CanPropagate}
+use Rattle.watch_core.proofs.ReadyLemmas.{rests_at_start, can_decided}
+use Rattle.watch_core.proofs.TrailLemmas.{empty_is}
 use Rattle.watch_core.proofs.tests.meets_a_false_clause.Goals as goal
 
+-- a first decision may be propagated
+can_first : {L : Type 0} (at : L → ℕ) (trail before : Assignment L) (clauses : List (List ℕ)) (decision : L) (variables : ℕ) → variables ≤ MOST_VARIABLES → before ≡ empty_trail variables → trail ≡ decided before decision → CanPropagate at trail clauses
+can_first at trail before clauses decision variables few empty made =
+    subst (λ t. CanPropagate at t clauses) (sym made) (can_decided at before clauses decision (empty_is at before variables empty few) (rests_at_start at before clauses variables empty))
+
 pub propagate-requires : goal.propagate-requires
-propagate-requires g c = record { ready = can_propagate _ c.decide.new.self.trail c.add-6.new.watched.trail (placed _ c.decide.new.self.clauses) c.literal.result c.literal.ensures c.add-6.ensures.trail c.decide.ensures.trail (ap (placed _) c.decide.ensures.clauses ∙ all_added _ _ _ _ _ _ _ (ap (placed _) c.in_ok-watched.ensures.clauses) c.in_ok-add.ensures.clauses c.in_ok-second.ensures.clauses c.in_ok-add-2.ensures.clauses c.in_ok-add-3.ensures.clauses c.in_ok-add-4.ensures.clauses c.in_ok-last.ensures.clauses) }
+propagate-requires g c = record { ready = can_first _ c.decide.new.self.trail c.add-6.new.watched.trail (placed _ c.decide.new.self.clauses) c.literal.result 5 (omega arith) c.add-6.ensures.trail c.decide.ensures.trail }

@@ -2,7 +2,8 @@ use Rattle.std.proofs.Common.{◌≡◌, ℕ, ◌+◌, ◌-◌, true, length, Li
 use Rattle.arena_core.specs.Chains.{chain_at}
 use Rattle.watch_core.specs.Places.{is_false, placed}
 use Rattle.watch_core.specs.Trail.{places, waiting}
-use Rattle.watch_core.specs.Cover.{IsPropagating, Propagates}
+use Rattle.watch_core.specs.Cover.{IsPropagating}
+use Rattle.watch_core.specs.Propagates.{Propagates}
 use Rattle.watch_core.proofs.Steps.{IsWalking}
 use Rattle.watch_core.proofs.walk.walk.Given as goal
 

@@ -1,7 +1,7 @@
 use Rattle.std.proofs.Common.{ap, sym, subst, List}
 use Rattle.watch_core.specs.Places.{placed}
 use Rattle.watch_core.specs.Settled.{CanPropagate}
-use Rattle.watch_core.specs.Cover.{AreReordered}
+use Rattle.watch_core.specs.Propagates.{AreReordered}
 use Rattle.watch_core.specs.Watched.{Clauses}
 use Rattle.watch_core.proofs.Held.{held_from, going_from, outcome_now}
 use Rattle.watch_core.proofs.Orders.{only_order}
