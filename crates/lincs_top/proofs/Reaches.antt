@@ -10,7 +10,7 @@ use Rattle.lincs_top.specs.Command.{Command, names_of}
 use Rattle.lincs_top.specs.Ending.{End, unread, refused, Ending, silent}
 use Rattle.lincs_top.specs.Course.{World, readable, unreadable_at, is_at, file_at, ◌>>=◌, Step, Ends}
 use Rattle.lincs_top.specs.FileStep.{FileStep, StopsAs}
-use Rattle.lincs_top.specs.Obeys.{Answers}
+use Rattle.lincs_top.specs.Obeys.{OpensFirst, Answers}
 
 abbrev pub World_of : Files → Option ℕ → World
 World_of files u = record { files = files; unreadable = u }
@@ -55,44 +55,46 @@ from_before : (place : ℕ) (u : Option ℕ) → IsFrom (place + 1) u → IsFrom
 from_before place None from = tt
 from_before place (Some other) from = omega arith
 
-module _ {A : Type 0} (step : FileStep A) (is_step : IsStep step) (command : Command) (held : Option Files) (place : ℕ) (name : List ℕ) (next : A → World → Ending → Type 0) where
+module _ {A : Type 0} (step : FileStep A) (is_step : IsStep step) (command : Command) (held : Option Files) (place opened : ℕ) (name : List ℕ) (next : A → World → Ending → Type 0) where
   -- a step gave its value
-  pub reach_step : (value : A) → Reaches command held place (λ w. Step (step w place name) (λ v. next v w)) → ((files : Files) → held ≡ Some files → (k : ℕ) → step (readable files) k name ≡ Ok value)
+  pub reach_step : (value : A) → Reaches command held place (λ w. Step opened (step w place name) (λ v. next v w)) → ((files : Files) → held ≡ Some files → (k : ℕ) → step (readable files) k name ≡ Ok value)
       → Reaches command held (place + 1) (next value)
   reach_step value reached given = record {
     goes = λ files told u from e is.
         let gave : step (World_of files u) place name ≡ Ok value = is_step.same files u place name (later_place place u from) ∙ given files told place in
-        reached.goes files told u (from_before place u from) e (subst (λ r. Step r (λ v. next v (World_of files u)) e) (sym gave) is);
+        reached.goes files told u (from_before place u from) e (subst (λ r. Step opened r (λ v. next v (World_of files u)) e) (sym gave) is);
   }
 
   -- a step stopped
-  pub step_stopped : (shelf mid shelf' : ShelfState) (out : SinkState) (stop : Stop) → shelf.held ≡ held → Reaches command held place (λ w. Step (step w place name) (λ v. next v w)) → Contains (names_of command) name
-      → mid.held ≡ shelf.held → shelf.faults ≤ mid.faults → StopsAs mid shelf' step name stop → Answers command shelf shelf' out out (Err stop)
-  step_stopped shelf mid shelf' out (Unread file) is_held reached named same later s = (
+  pub step_stopped : (shelf mid shelf' : ShelfState) (out : SinkState) (stop : Stop) → shelf.held ≡ held → Reaches command held place (λ w. Step opened (step w place name) (λ v. next v w)) → Contains (names_of command) name
+      → mid.held ≡ shelf.held → shelf.faults ≤ mid.faults → OpensFirst command opened shelf shelf' → StopsAs mid shelf' step name stop → Answers command shelf shelf' out out (Err stop)
+  step_stopped shelf mid shelf' out (Unread file) is_held reached named same later asked s = (
+    omega (arith, s.1),
     record {
-      rose = omega (arith, s.1);
       missed = s.2 ∙ ap Some (sym s.0);
       named = subst (Contains (names_of command)) (sym s.0) named;
       reached = λ files told. (
         place,
-        silent (unread name),
-        reached.goes files (sym is_held ∙ told) (Some place) (omega arith) (silent (unread name))
-            (subst (λ r. Step r (λ v. next v (unreadable_at files place)) (silent (unread name))) (sym (is_step.stops files place name)) refl),
+        silent opened (unread name),
+        reached.goes files (sym is_held ∙ told) (Some place) (omega arith) (silent opened (unread name))
+            (subst (λ r. Step opened r (λ v. next v (unreadable_at files place)) (silent opened (unread name))) (sym (is_step.stops files place name)) refl),
         ap unread (sym s.0),
+        asked,
       );
     },
     refl,
   )
-  step_stopped shelf mid shelf' out Unwritten is_held reached named same later s = absurd s
-  step_stopped shelf mid shelf' out (Refused file why) is_held reached named same later s = record {
+  step_stopped shelf mid shelf' out Unwritten is_held reached named same later asked s = absurd s
+  step_stopped shelf mid shelf' out (Refused file why) is_held reached named same later asked s = record {
     ended = λ files told. (
-      silent (refused name why),
-      reached.goes files (sym is_held ∙ told) None tt (silent (refused name why))
-          (subst (λ r. Step r (λ v. next v (readable files)) (silent (refused name why))) (sym (s.1 files (same ∙ told) place)) refl),
+      silent opened (refused name why),
+      reached.goes files (sym is_held ∙ told) None tt (silent opened (refused name why))
+          (subst (λ r. Step opened r (λ v. next v (readable files)) (silent opened (refused name why))) (sym (s.1 files (same ∙ told) place)) refl),
       ap (λ n. refused n why) (sym s.0),
       Appends-nil out.written,
+      asked,
     );
     named = subst (Contains (names_of command)) (sym s.0) named;
     taken = s.2;
   }
-  step_stopped shelf mid shelf' out NoMemory is_held reached named same later s = inl (Keeps-refl out.written)
+  step_stopped shelf mid shelf' out NoMemory is_held reached named same later asked s = inl (Keeps-refl out.written)

@@ -31,4 +31,5 @@ end_of_rows name (Some fault) = refused name (refusal.Row fault)
 
 -- how the course ends once the table is open, and what is written
 abbrev pub classified_end : List ℕ → ProblemValue → RootsModel → TableState → Ending
-classified_end name problem model table = record { end = end_of_rows name (rows_left problem table).1; output = classified_text problem model table }
+classified_end name problem model table =
+    record { end = end_of_rows name (rows_left problem table).1; output = classified_text problem model table; opened = 3 }

@@ -60,17 +60,17 @@ model_at problem world place name = tree_at world place name >>= λ node. refusi
 abbrev pub table_at : ProblemValue → World → ℕ → List ℕ → Result TableState End
 table_at problem world place name = file_at world place name >>= λ bytes. refusing name refusal.Table (opening problem bytes)
 
--- the course goes on with a step's value, or ends there with no output
-abbrev pub Step : {A : Type 0} → Result A End → (A → Ending → Type 0) → Ending → Type 0
-Step (Ok value) next ending = next value ending
-Step (Err end) next ending = ending ≡ silent end
+-- the course goes on with a step's value, or ends there with no output and no file opened after those so far
+abbrev pub Step : {A : Type 0} → ℕ → Result A End → (A → Ending → Type 0) → Ending → Type 0
+Step opened (Ok value) next ending = next value ending
+Step opened (Err end) next ending = ending ≡ silent opened end
 
 -- the problem, the model and the table are read in this order, each accepted before the next is opened; then the rows go out
 abbrev pub Classifies : List ℕ → List ℕ → List ℕ → World → Ending → Type 0
 Classifies problem_name model_name table_name world =
-    Step (problem_at world 0 problem_name) (λ problem.
-    Step (model_at problem world 1 model_name) (λ model.
-    Step (table_at problem world 2 table_name) (λ table ending.
+    Step 1 (problem_at world 0 problem_name) (λ problem.
+    Step 2 (model_at problem world 1 model_name) (λ model.
+    Step 3 (table_at problem world 2 table_name) (λ table ending.
     ending ≡ classified_end table_name problem model table)))
 
 -- a course of the command ends so

@@ -15,10 +15,11 @@ status_of_end done = status.Done
 status_of_end (unread name) = status.ReadFault
 status_of_end (refused name refusal) = status.Refused
 
--- an end, and the whole output
+-- an end, the whole output, and how many of the command's files were opened until then
 pub record Ending : Type 0 where
   pub end : End
   pub output : List ℕ
+  pub opened : ℕ
 
-abbrev pub silent : End → Ending
-silent end = record { end = end; output = [] }
+abbrev pub silent : ℕ → End → Ending
+silent opened end = record { end = end; output = []; opened = opened }

@@ -3,6 +3,7 @@ use Rattle.std.specs.Prelude.{◌≡◌, ◌<◌, ◌≤◌, ◌++◌, ℕ, Bool
 use Rattle.std.specs.Io.KnownBytes.{Appends}
 use Rattle.edge_core.specs.Outside.{SinkState, Rose, AppendsPart}
 use Rattle.problem_core.specs.Problem.{ProblemValue}
+use Rattle.table_core.specs.Row.{HasGrades}
 use Rattle.table_core.specs.Rows.{RowsRead, rows_left}
 use Rattle.table_core.specs.Table.{TableState}
 use Rattle.table_core.specs.declared.row.Row.{Row}
@@ -15,10 +16,6 @@ pub record AppendsPrefix (old new : Option (List ℕ)) (bytes : List ℕ) : Type
   pub rest : List ℕ
   pub parts : bytes ≡ front ++ rest
   pub went : Appends old new front
-
--- a row that has a grade for each criterion
-abbrev pub HasGrades : ProblemValue → Row → Type 0
-HasGrades problem row = length row.grades ≡ length problem.criteria
 
 -- the next row is the current one, and the rows after it are left
 pub record NextIs (problem : ProblemValue) (old new : TableState) (row : Row) : Type 0 where

@@ -1,14 +1,12 @@
 -- What a whole run does.
-use Rattle.std.specs.Prelude.{◌≡◌, ◌++◌, ℕ, List, [], Some, None, take, IsTrue, All, Contains, Option}
+use Rattle.std.specs.Prelude.{◌≡◌, ◌++◌, ℕ, List, [], Some, None, take, IsTrue, All, Option}
 use Rattle.std.specs.Option.{ForSome}
-use Rattle.std.specs.Io.KnownBytes.{Appends}
-use Rattle.edge_core.specs.Outside.{Files, ShelfState, SinkState, AppendsPart}
+use Rattle.edge_core.specs.Outside.{ShelfState, SinkState}
 use Rattle.lincs_top.specs.declared.stop.Status.{Status}
 use Rattle.lincs_top.specs.declared.stop.Status.TheVariants as status
 use Rattle.lincs_top.specs.Command.{Command, command_in, names_of}
-use Rattle.lincs_top.specs.Ending.{unread, Ending, status_of_end}
-use Rattle.lincs_top.specs.Course.{Ends, readable, unreadable_at}
-use Rattle.lincs_top.specs.Obeys.{LeavesOnNoMemory}
+use Rattle.lincs_top.specs.Ending.{status_of_end}
+use Rattle.lincs_top.specs.Obeys.{EndsSo, WritesPart, Misses, LeavesOnNoMemory}
 
 -- the command's files may be opened
 abbrev pub MayOpen : ShelfState → Command → Type 0
@@ -38,20 +36,17 @@ IsCourseStatus status.ReadFault = ⊥
 IsCourseStatus status.WriteFault = ⊥
 IsCourseStatus status.NoMemory = ⊥
 
--- over the files that the shelf tells, a course of the words' command ends with this status, and its whole output went out
-abbrev pub CourseEnds : List (List ℕ) → ShelfState → SinkState → SinkState → Status → Type 0
-CourseEnds words shelf out out' status = ForSome (command_in words) (λ command. (files : Files) → shelf.held ≡ Some files → (
-    (ending : Ending) × Ends command (readable files) ending × (status_of_end ending.end ≡ status) × Appends out.written out'.written ending.output))
+-- over the files that the shelf tells, a course of the words' command ends with this status: its whole output went out, and no file was opened but its own
+abbrev pub CourseEnds : List (List ℕ) → ShelfState → ShelfState → SinkState → SinkState → Status → Type 0
+CourseEnds words shelf shelf' out out' status = ForSome (command_in words) (λ command. EndsSo command shelf shelf' out out' (λ end. status_of_end end ≡ status))
 
 -- a part of the output of a course went out, and something was still to go
-abbrev pub CourseWrites : List (List ℕ) → ShelfState → SinkState → SinkState → Type 0
-CourseWrites words shelf out out' = ForSome (command_in words) (λ command. (files : Files) → shelf.held ≡ Some files → (
-    (ending : Ending) × Ends command (readable files) ending × AppendsPart out.written out'.written ending.output))
+abbrev pub CourseWrites : List (List ℕ) → ShelfState → ShelfState → SinkState → SinkState → Type 0
+CourseWrites words shelf shelf' out out' = ForSome (command_in words) (λ command. WritesPart command shelf shelf' out out')
 
--- the missed name is that of a file of the words' command, and the files before it passed their steps
+-- the missed name is that of a file of the words' command, the files before it passed their steps, and none was opened after it
 abbrev pub MissesAFile : List (List ℕ) → ShelfState → ShelfState → Type 0
-MissesAFile words shelf shelf' = ForSome (command_in words) (λ command. (name : List ℕ) × (shelf'.missed ≡ Some name) × Contains (names_of command) name
-    × ((files : Files) → shelf.held ≡ Some files → ((place : ℕ) × (ending : Ending) × Ends command (unreadable_at files place) ending × (ending.end ≡ unread name))))
+MissesAFile words shelf shelf' = ForSome (command_in words) (λ command. (name : List ℕ) × Misses command shelf shelf' name)
 
 -- where memory is refused nothing was written, or a prefix of the output of a course
 abbrev pub MemoryLeaves : List (List ℕ) → ShelfState → SinkState → SinkState → Type 0
@@ -63,4 +58,4 @@ names_in None = []
 names_in (Some command) = names_of command
 
 abbrev pub OpensInOrder : List (List ℕ) → ShelfState → ShelfState → Type 0
-OpensInOrder words shelf shelf' = (k : ℕ) × (shelf'.asked ≡ shelf.asked ++ take k (names_in (command_in words)))
+OpensInOrder words shelf shelf' = (count : ℕ) × (shelf'.asked ≡ shelf.asked ++ take count (names_in (command_in words)))

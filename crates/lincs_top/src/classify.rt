@@ -25,18 +25,9 @@ pub fn classify<'a, S: Shelf, O: Sink>(
     requires table { IsTrue ((S.state shelf.old).may_open table.now) }
     ensures { Obeys (classifying problem.now model.now table.now) (S.state shelf.old) (S.state shelf.new) (O.state out.old) (O.state out.new) result }
 {
-    let criteria = match problem_of_file(alloc, shelf, problem) {
-        Ok(criteria) => criteria,
-        Err(stop) => return Err(stop),
-    };
-    let rule = match model_of_file(alloc, &criteria, shelf, model) {
-        Ok(rule) => rule,
-        Err(stop) => return Err(stop),
-    };
-    let rows = match table_of_file(alloc, &criteria, shelf, table) {
-        Ok(rows) => rows,
-        Err(stop) => return Err(stop),
-    };
+    let criteria = problem_of_file(alloc, shelf, problem)?;
+    let rule = model_of_file(alloc, &criteria, shelf, model)?;
+    let rows = table_of_file(alloc, &criteria, shelf, table)?;
     match put_table(alloc, &criteria, &rule, rows, out) {
         Ok(()) => Ok(()),
         Err(RowsFault::Row(fault)) => Err(Stop::Refused(table, Refusal::Row(fault))),

@@ -71,10 +71,7 @@ fn read_tree<'a, S: Shelf>(alloc: Global, shelf: &mut S, name: &'a str) -> Resul
     ensures opens { OpensOne (S.state shelf.old) (S.state shelf.new) name.now }
     ensures step { AnswersAs (S.state shelf.old) (S.state shelf.new) tree_at name.now result }
 {
-    let bytes = match read_file(alloc, shelf, name) {
-        Ok(bytes) => bytes,
-        Err(stop) => return Err(stop),
-    };
+    let bytes = read_file(alloc, shelf, name)?;
     match read_yaml(alloc, &bytes) {
         Ok(node) => Ok(node),
         Err(fault) => Err(Stop::refusing(name, yaml_refusal(fault))),
@@ -91,10 +88,7 @@ pub fn problem_of_file<'a, S: Shelf>(
     ensures opens { OpensOne (S.state shelf.old) (S.state shelf.new) name.now }
     ensures step { AnswersAs (S.state shelf.old) (S.state shelf.new) problem_at name.now result }
 {
-    let node = match read_tree(alloc, shelf, name) {
-        Ok(node) => node,
-        Err(stop) => return Err(stop),
-    };
+    let node = read_tree(alloc, shelf, name)?;
     match read_problem(alloc, &node) {
         Ok(problem) => Ok(problem),
         Err(fault) => Err(Stop::refusing(name, problem_refusal(fault))),
@@ -113,10 +107,7 @@ pub fn model_of_file<'a, S: Shelf>(
     ensures step { AnswersAs (S.state shelf.old) (S.state shelf.new) (model_at problem.now) name.now result }
     ensures belongs { IfOk result (Belongs problem.now) }
 {
-    let node = match read_tree(alloc, shelf, name) {
-        Ok(node) => node,
-        Err(stop) => return Err(stop),
-    };
+    let node = read_tree(alloc, shelf, name)?;
     match read_model(alloc, problem, &node) {
         Ok(model) => Ok(model),
         Err(fault) => Err(Stop::refusing(name, model_refusal(fault))),
@@ -135,10 +126,7 @@ pub fn table_of_file<'a, S: Shelf>(
     ensures step { AnswersAs (S.state shelf.old) (S.state shelf.new) (table_at problem.now) name.now result }
     ensures fits { IfOk result (IsTableOf problem.now) }
 {
-    let bytes = match read_file(alloc, shelf, name) {
-        Ok(bytes) => bytes,
-        Err(stop) => return Err(stop),
-    };
+    let bytes = read_file(alloc, shelf, name)?;
     match Table::open(alloc, problem, bytes) {
         Ok(table) => Ok(table),
         Err(fault) => Err(Stop::refusing(name, table_refusal(fault))),

@@ -50,14 +50,14 @@ pub fn run<S: Shelf, O: Sink, E: Sink>(
     ensures usage_silent { result ≡ Status.Usage → O.state out.new ≡ O.state out.old }
 
     // Done and Refused, and the ends of later commands, are ends of a course over the told files.
-    ensures course { IsCourseStatus result → CourseEnds (texts words.now) (S.state shelf.old) (O.state out.old) (O.state out.new) result }
+    ensures course { IsCourseStatus result → CourseEnds (texts words.now) (S.state shelf.old) (S.state shelf.new) (O.state out.old) (O.state out.new) result }
 
     // A fault comes only where its count rose.
     ensures read_fault { result ≡ Status.ReadFault → Rose (S.state shelf.old).faults (S.state shelf.new).faults }
     ensures read_silent { result ≡ Status.ReadFault → O.state out.new ≡ O.state out.old }
     ensures read_missed { result ≡ Status.ReadFault → MissesAFile (texts words.now) (S.state shelf.old) (S.state shelf.new) }
     ensures write_fault { result ≡ Status.WriteFault → Rose (O.state out.old).faults (O.state out.new).faults }
-    ensures write_prefix { result ≡ Status.WriteFault → CourseWrites (texts words.now) (S.state shelf.old) (O.state out.old) (O.state out.new) }
+    ensures write_prefix { result ≡ Status.WriteFault → CourseWrites (texts words.now) (S.state shelf.old) (S.state shelf.new) (O.state out.old) (O.state out.new) }
 
     ensures memory_leaves { result ≡ Status.NoMemory → MemoryLeaves (texts words.now) (S.state shelf.old) (O.state out.old) (O.state out.new) }
 
@@ -65,7 +65,7 @@ pub fn run<S: Shelf, O: Sink, E: Sink>(
     ensures complete { (Rose (S.state shelf.old).faults (S.state shelf.new).faults → ⊥)
         → (Rose (O.state out.old).faults (O.state out.new).faults → ⊥)
         → (result ≡ Status.Usage) ⊎ (result ≡ Status.NoMemory)
-        ⊎ CourseEnds (texts words.now) (S.state shelf.old) (O.state out.old) (O.state out.new) result }
+        ⊎ CourseEnds (texts words.now) (S.state shelf.old) (S.state shelf.new) (O.state out.old) (O.state out.new) result }
 {
     let _ = err;
     let Some(job) = read_words(words) else {
@@ -90,7 +90,7 @@ pub fn run_safely<E: Sink>(
     ensures no_write_fault { result ≡ Status.WriteFault → ⊥ }
     ensures usage { (result ≡ Status.Usage) ↔ (command_in (texts words.now) ≡ None) }
     ensures complete { (result ≡ Status.Usage) ⊎ (result ≡ Status.NoMemory)
-        ⊎ CourseEnds (texts words.now) (safe_shelf_state shelf.old) (⟦<SafeSink as Sink>⟧.state out.old) (⟦<SafeSink as Sink>⟧.state out.new) result }
+        ⊎ CourseEnds (texts words.now) (safe_shelf_state shelf.old) (safe_shelf_state shelf.new) (⟦<SafeSink as Sink>⟧.state out.old) (⟦<SafeSink as Sink>⟧.state out.new) result }
 {
     run(alloc, words, shelf, out, err)
 }

@@ -1,11 +1,12 @@
 //! The rows of a table, written with their categories.
 ghost use Rattle.std.specs.Prelude.{IsSome, IfSome};
 ghost use Rattle.std.specs.List.{flat_map};
+ghost use Rattle.table_core.specs.Row.{HasGrades};
 ghost use Rattle.table_core.specs.Rows.{rows_left};
 ghost use Rattle.table_core.specs.Table.{IsTableOf};
 ghost use Rattle.model_core.specs.Model.{Belongs};
 ghost use Rattle.lincs_top.specs.Classified.{classified_record, classified_text};
-ghost use Rattle.lincs_top.specs.Rows.{HasGrades, HasNext, PutsRecord, PutsRows};
+ghost use Rattle.lincs_top.specs.Rows.{HasNext, PutsRecord, PutsRows};
 
 use edge_core::{Sink, put_all};
 use model_core::{RootsModel, sort};

@@ -1,5 +1,5 @@
 //! Worked rows of `classify`.
-use crate::session::{MODEL, PROBLEM, PROBLEM_OF_THREE, ends_with};
+use crate::session::{MODEL, PROBLEM, PROBLEM_OF_THREE, ends_with, model};
 use lincs_top::Status;
 use std::test::Fail;
 
@@ -28,35 +28,23 @@ fn a_header_alone_is_a_table_and_an_empty_file_is_not(rt: HostRuntime) -> Result
 
 #[test]
 fn no_root_accepts_nothing_and_an_empty_root_everything(rt: HostRuntime) -> Result<(), Fail> {
-    let none = "kind: ncs-classification-model
-format_version: 1
-accepted_values:
-  - kind: thresholds
-    thresholds: [7]
-sufficient_coalitions:
-  - kind: roots
-    upset_roots: []
-";
-    let all = "kind: ncs-classification-model
-format_version: 1
-accepted_values:
-  - kind: thresholds
-    thresholds: [7]
-sufficient_coalitions:
-  - kind: roots
-    upset_roots: [[]]
-";
+    let none = model(rt.alloc(), "[7]", "  - kind: roots\n    upset_roots: []\n")?;
+    let all = model(
+        rt.alloc(),
+        "[7]",
+        "  - kind: roots\n    upset_roots: [[]]\n",
+    )?;
     let table = "name,Speed\na,3\nb,7\n";
     ends_with(
         &rt,
         rt.alloc(),
-        (PROBLEM, none, table),
+        (PROBLEM, &none, table),
         (Status::Done, "name,Speed,category\na,3,Bad\nb,7,Bad\n"),
     )?;
     ends_with(
         &rt,
         rt.alloc(),
-        (PROBLEM, all, table),
+        (PROBLEM, &all, table),
         (Status::Done, "name,Speed,category\na,3,Good\nb,7,Good\n"),
     )
 }
@@ -100,21 +88,17 @@ ordered_categories:
   - name: Bad
   - name: Good
 ";
-    let model = "kind: ncs-classification-model
-format_version: 1
-accepted_values:
-  - kind: thresholds
-    thresholds: [2.50]
-sufficient_coalitions:
-  - kind: roots
-    upset_roots: [[0]]
-";
+    let model = model(
+        rt.alloc(),
+        "[2.50]",
+        "  - kind: roots\n    upset_roots: [[0]]\n",
+    )?;
     let table = "name,Speed\na,2.5\nb,2.51\nc,2.50\n";
     let want = "name,Speed,category\na,2.5,Good\nb,2.51,Bad\nc,2.50,Good\n";
     ends_with(
         &rt,
         rt.alloc(),
-        (problem, model, table),
+        (problem, &model, table),
         (Status::Done, want),
     )
 }
@@ -123,44 +107,34 @@ sufficient_coalitions:
 fn the_greatest_boundary_decides_though_a_lower_one_is_not_reached(
     rt: HostRuntime,
 ) -> Result<(), Fail> {
-    let model = "kind: ncs-classification-model
-format_version: 1
-accepted_values:
-  - kind: thresholds
-    thresholds: [3, 7]
-sufficient_coalitions:
-  - kind: roots
+    let coalitions = "  - kind: roots
     upset_roots: []
   - kind: roots
     upset_roots: [[]]
 ";
+    let model = model(rt.alloc(), "[3, 7]", coalitions)?;
     let want = "name,Speed,category\na,0,High\n";
     ends_with(
         &rt,
         rt.alloc(),
-        (PROBLEM_OF_THREE, model, "name,Speed\na,0\n"),
+        (PROBLEM_OF_THREE, &model, "name,Speed\na,0\n"),
         (Status::Done, want),
     )
 }
 
 #[test]
 fn an_alias_stands_for_the_coalitions_of_another_boundary(rt: HostRuntime) -> Result<(), Fail> {
-    let model = "kind: ncs-classification-model
-format_version: 1
-accepted_values:
-  - kind: thresholds
-    thresholds: [3, 7]
-sufficient_coalitions:
-  - &coalitions
+    let coalitions = "  - &coalitions
     kind: roots
     upset_roots: [[0]]
   - *coalitions
 ";
+    let model = model(rt.alloc(), "[3, 7]", coalitions)?;
     let want = "name,Speed,category\na,2,Low\nb,3,Mid\nc,7,High\n";
     ends_with(
         &rt,
         rt.alloc(),
-        (PROBLEM_OF_THREE, model, "name,Speed\na,2\nb,3\nc,7\n"),
+        (PROBLEM_OF_THREE, &model, "name,Speed\na,2\nb,3\nc,7\n"),
         (Status::Done, want),
     )
 }

@@ -1,5 +1,5 @@
 //! Each call of the outside failing in turn.
-use crate::session::{MODEL, PROBLEM, shelf, words};
+use crate::session::{MODEL, PROBLEM, run_job, shelf, words};
 use edge_core::{MemSink, SafeShelf};
 use lincs_top::{Status, run};
 use std::test::Fail;
@@ -18,14 +18,7 @@ fn each_failing_read_writes_nothing(rt: HostRuntime) -> Result<(), Fail> {
         let mut shelf = shelf(rt.alloc(), PROBLEM, MODEL, TABLE)?;
         shelf.fail_at(call)?;
         let mut out = MemSink::new(rt.alloc());
-        let mut err = MemSink::new(rt.alloc());
-        let status = run(
-            rt.alloc(),
-            &words(rt.alloc())?,
-            &mut shelf,
-            &mut out,
-            &mut err,
-        );
+        let status = run_job(&rt, rt.alloc(), &mut shelf, &mut out)?;
         if status == Status::Done {
             assert_eq!(&rt; out.bytes(), SORTED.as_bytes());
             without_failure = call;
@@ -46,14 +39,7 @@ fn each_failing_write_leaves_a_prefix(rt: HostRuntime) -> Result<(), Fail> {
         let mut shelf = shelf(rt.alloc(), PROBLEM, MODEL, TABLE)?;
         let mut out = MemSink::new(rt.alloc());
         out.fail_at(call)?;
-        let mut err = MemSink::new(rt.alloc());
-        let status = run(
-            rt.alloc(),
-            &words(rt.alloc())?,
-            &mut shelf,
-            &mut out,
-            &mut err,
-        );
+        let status = run_job(&rt, rt.alloc(), &mut shelf, &mut out)?;
         if status == Status::Done {
             assert_eq!(&rt; out.bytes(), SORTED.as_bytes());
             without_failure = call;

@@ -68,6 +68,32 @@ pub fn shelf(
     Ok(shelf)
 }
 
+/// A model of one criterion, from its list of thresholds and the lines of its coalitions.
+pub fn model(alloc: Global, thresholds: &str, coalitions: &str) -> Result<String, AllocError> {
+    format!(in alloc;
+        "kind: ncs-classification-model
+format_version: 1
+accepted_values:
+  - kind: thresholds
+    thresholds: {thresholds}
+sufficient_coalitions:
+{coalitions}"
+    )
+}
+
+/// Runs the job over these files and this output. The error output gets nothing.
+pub fn run_job(
+    rt: &impl Abort,
+    alloc: Global,
+    shelf: &mut MemShelf,
+    out: &mut MemSink,
+) -> Result<Status, Fail> {
+    let mut err = MemSink::new(alloc);
+    let status = run(alloc, &words(alloc)?, shelf, out, &mut err);
+    assert_eq!(rt; err.bytes(), b"".as_slice());
+    Ok(status)
+}
+
 /// Runs the job over the three files, and looks at its status and its output.
 pub fn ends_with(
     rt: &impl Abort,
@@ -77,10 +103,7 @@ pub fn ends_with(
 ) -> Result<(), Fail> {
     let mut shelf = shelf(alloc, files.0, files.1, files.2)?;
     let mut out = MemSink::new(alloc);
-    let mut err = MemSink::new(alloc);
-    let status = run(alloc, &words(alloc)?, &mut shelf, &mut out, &mut err);
-    assert_eq!(rt; status, want.0);
+    assert_eq!(rt; run_job(rt, alloc, &mut shelf, &mut out)?, want.0);
     assert_eq!(rt; out.bytes(), want.1.as_bytes());
-    assert_eq!(rt; err.bytes(), b"".as_slice());
     Ok(())
 }
