@@ -1,17 +1,16 @@
 -- One hint of a chain.
-use Rattle.std.proofs.Common.{◌≡◌, ℕ, ◌+◌, ◌<◌, ◌==◌, ◌||◌, Bool, true, false, not, Some, List, [], ◌∷◌, length, subst, get_or, set, drop, cond, refl, sym, ◌∙◌, ap, arith, eq-eqb, inl, inr}
+use Rattle.std.proofs.Common.{◌≡◌, ℕ, ◌+◌, ◌<◌, ◌==◌, ◌||◌, Bool, true, false, not, Some, List, [], ◌∷◌, length, subst, get_or, set, drop, cond, refl, sym, ◌∙◌, ap, eq-eqb, inl, inr}
 use Rattle.std.specs.List.{filter, All}
 use Rattle.std.proofs.lemmas.List.{drop_more, get_or-set_same, get_or-set_other, length-set}
 use Rattle.std.proofs.lemmas.List.Elements.{All-head, All-tail}
 use Rattle.std.proofs.lemmas.Bool.{cases_eq}
-use Rattle.std.proofs.lemmas.Bool.Decides.{eqb_tells, nat_tests}
-use Rattle.chain_core.specs.Literal.{negation}
-use Rattle.chain_core.specs.Chain.{clause_at, is_false, open_literals, after_open, after_clause, chain_from}
+use Rattle.std.proofs.lemmas.Bool.Decides.{eqb_tells}
+use Rattle.literals_core.specs.Literal.{negation}
+use Rattle.literals_core.specs.Truth.{is_false, open_literals}
+use Rattle.literals_core.proofs.Negation.{negation_twice}
+use Rattle.chain_core.specs.Chain.{clause_at, after_open, after_clause, chain_from}
 use Rattle.chain_core.specs.Stamps.{IsMarked}
 use Rattle.chain_core.proofs.KnownFacts.{All-clause_at}
-
-pub negation_twice : (l : ℕ) → negation (negation l) ≡ l
-negation_twice l = grind (arith, nat_tests)
 
 open_same : (stamps : List ℕ) (stamp : ℕ) (now clause : List ℕ) → All (λ l. l < length stamps) clause → IsMarked stamps stamp now → filter (λ l. not (get_or stamps l 0 == stamp)) clause ≡ open_literals now clause
 open_same stamps stamp now [] within marked = refl

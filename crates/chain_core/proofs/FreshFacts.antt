@@ -2,11 +2,12 @@
 use Rattle.std.proofs.Common.{◌≡◌, ℕ, List, sym, ◌∙◌, subst, Some, ◌⊎◌, inl, inr}
 use Rattle.std.specs.List.{All, Contains, slice_get}
 use Rattle.std.proofs.lemmas.List.Elements.{All-contains}
-use Rattle.chain_core.specs.Literal.{negation}
+use Rattle.literals_core.specs.Literal.{negation}
+use Rattle.literals_core.specs.Truth.{IsTrueUnder, IsFalseUnder}
+use Rattle.literals_core.specs.Settled.{IsSettled}
 use Rattle.chain_core.specs.Cnf.{Cnf}
-use Rattle.chain_core.specs.Chain.{IsTrueUnder, IsFalseUnder}
 use Rattle.chain_core.specs.Log.{known_before}
-use Rattle.chain_core.specs.Fresh.{HasNoPair, IsSettled, LeavesOne, IsFresh}
+use Rattle.chain_core.specs.Fresh.{HasNoPair, LeavesOne, IsFresh}
 use Rattle.chain_core.specs.declared.log.Lemma.{Lemma}
 
 module _ (set literals : List ℕ) (consistent : HasNoPair set) (one : LeavesOne set literals) where

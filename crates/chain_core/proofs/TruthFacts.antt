@@ -1,16 +1,17 @@
 -- What a chain says of truth values.
-use Rattle.std.proofs.Common.{◌≡◌, ◌≢◌, ℕ, suc, ◌+◌, ◌-◌, ◌/◌, ◌%◌, ◌==◌, ◌||◌, not, Bool, true, false, cond, List, [], ◌∷◌, ◌++◌, map, refl, sym, ◌∙◌, ap, arith, eq-eqb, subst, ◌⊎◌, inl, inr}
+use Rattle.std.proofs.Common.{◌≡◌, ◌≢◌, ℕ, ◌+◌, ◌-◌, ◌/◌, ◌%◌, ◌==◌, ◌||◌, not, Bool, true, false, cond, List, [], ◌∷◌, ◌++◌, map, refl, sym, ◌∙◌, ap, arith, eq-eqb, subst, ◌⊎◌, inl, inr}
 use Rattle.std.specs.List.{All, Contains}
 use Rattle.std.proofs.lemmas.Bool.{false≢true, cases_Bool, ne_eqb}
 use Rattle.std.proofs.lemmas.Bool.Decides.{eqb_tells}
 use Rattle.std.proofs.lemmas.List.Elements.{All-push, All-cons, All-nil, All-contains, Contains-push}
-use Rattle.chain_core.specs.Literal.{negation}
+use Rattle.literals_core.specs.Literal.{negation}
+use Rattle.literals_core.specs.Truth.{IsFalseUnder}
+use Rattle.literals_core.proofs.Members.{Contains-first, Contains-later}
 use Rattle.chain_core.specs.Cnf.{Cnf}
-use Rattle.chain_core.specs.Chain.{IsFalseUnder, Chains, ends, adds}
+use Rattle.chain_core.specs.Chain.{Chains, ends, adds}
 use Rattle.chain_core.specs.Log.{IsGoodLemma, IsRefutation}
 use Rattle.chain_core.specs.Truth.{literal_true, clause_true, Satisfies, IsUnsatisfiable}
 use Rattle.chain_core.specs.declared.log.Lemma.{Lemma}
-use Rattle.chain_core.proofs.ChainFacts.{Contains-first, Contains-later}
 use Rattle.chain_core.proofs.KnownFacts.{All-clause_at}
 use Rattle.chain_core.proofs.GoodFacts.{GoodAfter, first_good, rest_good}
 

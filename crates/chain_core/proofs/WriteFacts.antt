@@ -8,10 +8,11 @@ use Rattle.std.proofs.lemmas.List.Elements.{All-more}
 use Rattle.std.proofs.lemmas.Option.{slice_get_within, get_or_from_slice_get}
 use Rattle.lists_core.specs.Puts.{Puts}
 use Rattle.lists_core.proofs.PutsFacts.{puts-then, puts-cut, puts-failed}
+use Rattle.literals_core.specs.Literal.{variable_of}
 use Rattle.chain_core.specs.Text.{line_of, sign_text, literal_word, size_words, clause_words, lemma_words, header_words, dimacs_text}
 use Rattle.chain_core.specs.Cnf.{Cnf}
 use Rattle.chain_core.specs.Lemma.{IsNumbered, IsWritable}
-use Rattle.chain_core.specs.Literal.{IsPlace, variable_of}
+use Rattle.chain_core.specs.Literal.{IsPlace}
 use Rattle.chain_core.specs.declared.number.TheConstants.{MOST_ID}
 use Rattle.chain_core.specs.declared.encoding.Encoding.{Encoding}
 use Rattle.chain_core.specs.declared.encoding.Encoding.TheVariants.{Separation}

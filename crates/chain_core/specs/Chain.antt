@@ -1,20 +1,14 @@
 -- When the hints of a lemma lead to a false clause, as the hints of LRAT proofs do
 -- (Cruz-Filipe, Heule, Hunt, Kaufmann and Schneider-Kamp 2017).
-use Rattle.std.specs.Prelude.{ℕ, zero, suc, ◌≡◌, ◌==◌, Bool, true, false, not, ◌&&◌, ◌⊎◌, List, [], ◌∷◌, Option, Some, None, slice_get, filter, map, Contains, All}
-use Rattle.std.specs.List.{list_any, list_all}
-use Rattle.chain_core.specs.Literal.{negation}
+use Rattle.std.specs.Prelude.{ℕ, zero, suc, ◌≡◌, ◌==◌, Bool, true, false, ◌&&◌, ◌⊎◌, List, [], ◌∷◌, Option, Some, None, slice_get, map, Contains, All}
+use Rattle.std.specs.List.{list_all}
+use Rattle.literals_core.specs.Literal.{negation}
+use Rattle.literals_core.specs.Truth.{IsFalseUnder, open_literals}
 
 -- the clause of an id: ids count from 1, and 0 and the ids past the end name no clause
 abbrev pub clause_at : List (List ℕ) → ℕ → Option (List ℕ)
 clause_at clauses zero = None
 clause_at clauses (suc k) = slice_get clauses k
-
--- a literal is true under a set that has it, and false under a set that has its negation
-abbrev pub IsTrueUnder : List ℕ → ℕ → Type 0
-IsTrueUnder set l = Contains set l
-
-abbrev pub IsFalseUnder : List ℕ → ℕ → Type 0
-IsFalseUnder set l = Contains set (negation l)
 
 -- the clause has exactly one distinct literal that is not false, which is l
 pub record IsOnlyOpen (set clause : List ℕ) (l : ℕ) : Type 0 where
@@ -28,15 +22,8 @@ pub data Chains (clauses : List (List ℕ)) : List ℕ → List ℕ → Type 0 w
   ends : {set hints clause : List ℕ} {h : ℕ} → clause_at clauses h ≡ Some clause → All (IsFalseUnder set) clause → Chains clauses set (h ∷ hints)
   adds : {set hints clause : List ℕ} {h l : ℕ} → clause_at clauses h ≡ Some clause → IsOnlyOpen set clause l → Chains clauses (l ∷ set) hints → Chains clauses set (h ∷ hints)
 
--- the same as a computation
-abbrev pub is_false : List ℕ → ℕ → Bool
-is_false set l = list_any (λ x. x == negation l) set
-
--- the literals of a clause that are not false
-abbrev pub open_literals : List ℕ → List ℕ → List ℕ
-open_literals set clause = filter (λ l. not (is_false set l)) clause
-
--- no open literal ends the chain; one, which may stand several times, is the next to be set; two different ones fail
+-- the same as a computation: no open literal ends the chain; one, which may stand several times, is the next to be set;
+-- two different ones fail
 abbrev pub after_open : List ℕ → (ℕ → Bool) → Bool
 after_open [] next = true
 after_open (l ∷ ls) next = list_all (λ x. x == l) ls && next l

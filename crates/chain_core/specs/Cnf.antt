@@ -1,6 +1,6 @@
 -- A formula in conjunctive normal form.
 use Rattle.std.specs.Prelude.{ℕ, ◌≤◌, List, All}
-use Rattle.chain_core.specs.Literal.{variable_of}
+use Rattle.literals_core.specs.Literal.{variable_of}
 
 -- variables are numbered from 1, and a clause is a list of literals
 pub record Cnf : Type 0 where

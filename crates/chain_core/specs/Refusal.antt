@@ -1,6 +1,6 @@
 -- Why a log is no refutation.
 use Rattle.std.specs.Prelude.{ℕ, ◌≡◌, ◌≢◌, ◌+◌, ◌<◌, ◌≤◌, ◌⊎◌, List, ◌∷◌, ◌++◌, length, map, All, Any}
-use Rattle.chain_core.specs.Literal.{variable_of, negation}
+use Rattle.literals_core.specs.Literal.{variable_of, negation}
 use Rattle.chain_core.specs.Cnf.{Cnf}
 use Rattle.chain_core.specs.Chain.{Chains}
 use Rattle.chain_core.specs.Log.{known_after, IsGood, EndsEmpty}

@@ -1,6 +1,6 @@
 -- How the checker keeps the set of a chain: a literal is false where its stamp is that of the lemma.
 use Rattle.std.specs.Prelude.{ℕ, ◌≡◌, ◌<◌, ◌==◌, Bool, true, false, List, length, slice_index}
-use Rattle.chain_core.specs.Chain.{is_false}
+use Rattle.literals_core.specs.Truth.{is_false}
 use Rattle.chain_core.specs.declared.chain.Standing.{Standing}
 use Rattle.chain_core.specs.declared.chain.Standing.TheVariants.{AllFalse, One, Several}
 

@@ -1,7 +1,8 @@
 -- The texts of formulas and of logs, as words and lines.
 use Rattle.std.specs.Prelude.{ℕ, List, [], ◌∷◌, ◌++◌, length, map, codes, decimal, if◌then◌else◌}
 use Rattle.std.specs.List.{flat_map, join_with_byte}
-use Rattle.chain_core.specs.Literal.{variable_of, has_minus}
+use Rattle.literals_core.specs.Literal.{variable_of}
+use Rattle.chain_core.specs.Literal.{has_minus}
 use Rattle.chain_core.specs.Cnf.{Cnf}
 use Rattle.chain_core.specs.declared.encoding.Encoding.{Encoding}
 use Rattle.chain_core.specs.declared.encoding.Encoding.TheVariants.{Separation}

@@ -1,7 +1,7 @@
 -- Truth values of variables, and what they make true.
 use Rattle.std.specs.Prelude.{ℕ, ◌≡◌, ◌==◌, ◌%◌, Bool, true, not, List, All, if◌then◌else◌}
 use Rattle.std.specs.List.{list_any}
-use Rattle.chain_core.specs.Literal.{variable_of}
+use Rattle.literals_core.specs.Literal.{variable_of}
 use Rattle.chain_core.specs.Cnf.{Cnf}
 
 -- a literal with a plus has the value of its variable, and one with a minus the other

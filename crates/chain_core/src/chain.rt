@@ -3,7 +3,7 @@
 //! The set of literals that a chain keeps is a table of stamps with a place for each literal: a
 //! literal is false where its stamp is that of the lemma. So nothing is cleared between lemmas.
 ghost use Rattle.std.specs.Prelude.{◌≡◌, Bool, ℕ, List, not, ◌==◌, ◌+◌, ◌<◌, ◌≤◌, length, map, filter, Contains, All, Some, slice_index};
-ghost use Rattle.chain_core.specs.Literal.{negation};
+ghost use Rattle.literals_core.specs.Literal.{negation};
 ghost use Rattle.chain_core.specs.Chain.{after_open, chain_from, clause_at};
 ghost use Rattle.chain_core.specs.Log.{known_before};
 ghost use Rattle.chain_core.specs.Stamps.{IsMarked, IfOne, standing_answer};

@@ -1,10 +1,10 @@
 //! Formulas.
 ghost use Rattle.std.specs.Prelude.{◌≡◌, ◌∷◌, ◌++◌, [], length, OnOk, OnErr, ◌<◌, ◌≤◌, ◌+◌, All, Some};
-ghost use Rattle.chain_core.specs.Literal.{variable_of};
+ghost use Rattle.literals_core.specs.Literal.{variable_of};
 ghost use Rattle.chain_core.specs.Chain.{clause_at};
 ghost use Rattle.chain_core.specs.Cnf.{InRange};
 
-use crate::literal::{Literal, MOST_VARIABLES};
+use crate::literal::{GREATEST_VARIABLE, Literal};
 use rows_core::Rows;
 use std::alloc::{AllocError, Global};
 use std::marker::Model;
@@ -23,20 +23,20 @@ pub struct Formula {
 impl Model for Formula {
     ghost use Rattle.std.specs.Prelude.{length, ◌≤◌};
     ghost use Rattle.chain_core.specs.Cnf.{Cnf, InRange};
-    ghost use Rattle.chain_core.specs.declared.literal.TheConstants.{MOST_VARIABLES};
+    ghost use Rattle.chain_core.specs.declared.literal.TheConstants.{GREATEST_VARIABLE};
     ghost use Rattle.chain_core.specs.declared.formula.TheConstants.{MOST_CLAUSES};
 
     ghost Value = { Cnf };
 
     ghost view = { λ a. record { variables = a.variables; clauses = a.clauses } };
 
-    ghost invariant = { λ a. (a.variables ≤ MOST_VARIABLES) × (length a.clauses ≤ MOST_CLAUSES) × InRange a.variables a.clauses };
+    ghost invariant = { λ a. (a.variables ≤ GREATEST_VARIABLE) × (length a.clauses ≤ MOST_CLAUSES) × InRange a.variables a.clauses };
 }
 
 impl Formula {
     /// The formula of so many variables and no clause. Takes no memory.
     pub fn new(alloc: Global, variables: u32) -> Formula
-        requires { variables ≤ MOST_VARIABLES }
+        requires { variables ≤ GREATEST_VARIABLE }
         ensures variables { result.variables ≡ variables }
         ensures clauses { result.clauses ≡ [] }
     {
@@ -60,7 +60,7 @@ impl Formula {
     /// The number of variables.
     pub fn variables(&self) -> u32
         ensures value { result ≡ self.now.variables }
-        ensures bound { result ≤ MOST_VARIABLES }
+        ensures bound { result ≤ GREATEST_VARIABLE }
         ensures range { InRange self.now.variables self.now.clauses }
     {
         self.variables

@@ -18,7 +18,7 @@ pub use encoding::Encoding;
 pub use fault::{CheckFault, LogFault};
 pub use formula::{Formula, MOST_CLAUSES};
 pub use laws::{computed_chain_is_a_chain, fresh_lemma_is_no_weaker_copy};
-pub use literal::{Literal, MOST_VARIABLES};
+pub use literal::{GREATEST_VARIABLE, Literal};
 pub use log::{Hints, Lemma, Literals, Log};
 pub use read::{MOST_BYTES, read_log};
 pub use write::{put_dimacs, write_log};

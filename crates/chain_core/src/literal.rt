@@ -1,16 +1,17 @@
 //! A variable with a sign.
 ghost use Rattle.std.specs.Prelude.{IfSome, IsNone, pos, negsuc, ◌⊎◌, ◌↔◌, ◌≡◌, ◌+◌, ◌*◌, ◌<◌, ◌≤◌, ◌^◌};
-ghost use Rattle.chain_core.specs.Literal.{negation, variable_of, has_minus, number_of};
+ghost use Rattle.literals_core.specs.Literal.{negation, variable_of};
+ghost use Rattle.chain_core.specs.Literal.{has_minus, number_of};
 
 use std::marker::Model;
 
 /// The greatest variable, so that twice a variable and one more fits 32 bits.
-pub const MOST_VARIABLES: u32 = 2_147_483_647;
+pub const GREATEST_VARIABLE: u32 = 2_147_483_647;
 
 /// The greatest place: twice the greatest variable, and one more.
 pub const MOST_PLACE: u32 = 4_294_967_295;
 
-/// A variable from 1 to [`MOST_VARIABLES`] and a sign.
+/// A variable from 1 to [`GREATEST_VARIABLE`] and a sign.
 ///
 /// Contracts see its place: twice its variable, and one more where its sign is minus.
 #[derive(Clone, Copy, PartialEq, Eq)]
@@ -35,7 +36,7 @@ impl Literal {
     /// exactly for 0 and the least number.
     pub fn of(number: i32) -> Option<Literal>
         ensures value { IfSome result (λ l. number_of l ≡ number) }
-        ensures none { IsNone result ↔ ((number ≡ pos 0) ⊎ (number ≡ negsuc MOST_VARIABLES)) }
+        ensures none { IsNone result ↔ ((number ≡ pos 0) ⊎ (number ≡ negsuc GREATEST_VARIABLE)) }
     {
         if number > 0 {
             Some(Literal {
@@ -81,7 +82,7 @@ impl Literal {
     pub fn variable(self) -> u32
         ensures value { result ≡ variable_of self }
         ensures least { 1 ≤ result }
-        ensures most { result ≤ MOST_VARIABLES }
+        ensures most { result ≤ GREATEST_VARIABLE }
     {
         self.place / 2
     }

@@ -1,5 +1,5 @@
 -- What a new clause keeps.
-use Rattle.std.proofs.Common.{◌≡◌, ◌≢◌, ℕ, zero, suc, ◌+◌, ◌-◌, ◌*◌, ◌/◌, ◌%◌, ◌<◌, ◌≤◌, ◌==◌, ◌||◌, not, Bool, true, false, cond, List, [], ◌∷◌, ◌++◌, length, map, get_or, set, refl, sym, ◌∙◌, ap, subst, arith, inl, inr, ◌⊎◌, eq-eqb}
+use Rattle.std.proofs.Common.{◌≡◌, ◌≢◌, ℕ, zero, suc, ◌+◌, ◌-◌, ◌*◌, ◌/◌, ◌%◌, ◌<◌, ◌≤◌, ◌==◌, ◌||◌, Bool, true, false, cond, List, [], ◌∷◌, ◌++◌, length, map, get_or, set, refl, sym, ◌∙◌, ap, subst, arith, inl, inr, ◌⊎◌, eq-eqb}
 use Rattle.std.specs.List.{All, Contains, IsDistinct}
 use Rattle.std.proofs.lemmas.List.{length-append, length-map, length-set, map-append, get_or_append_left, get_or_at, get_or_past, get_or_default, get_or-set_same, get_or-set_other, get_or-map, set_past}
 use Rattle.std.proofs.lemmas.List.Elements.{All-contains}
@@ -8,7 +8,10 @@ use Rattle.std.proofs.lemmas.Map.Steps.{length-le_from_distinct_below}
 use Rattle.std.proofs.lemmas.Bool.{cases_eq, cases_lt, false≢true}
 use Rattle.std.proofs.lemmas.Bool.Decides.{eqb_tells, leb_tells}
 use Rattle.arena_core.specs.Chains.{chain_at, put_first, IsSeated}
-use Rattle.watch_core.specs.Places.{opposite_place, is_true, is_false, open_literals, placed}
+use Rattle.literals_core.specs.Literal.{negation}
+use Rattle.literals_core.specs.Truth.{is_true, is_false, open_literals}
+use Rattle.literals_core.proofs.Truth.{open_more, open_skip}
+use Rattle.watch_core.specs.Places.{placed}
 use Rattle.watch_core.specs.Trail.{Entry, Assignment, places, cut, waiting}
 use Rattle.watch_core.specs.Cover.{IsWatch, Watches, HasTrue, AllBut, IsCovered}
 use Rattle.watch_core.specs.Added.{CanAdd, NotAfter, both_put, standing_of, standing_open}
@@ -57,19 +60,19 @@ not_after {L} at t k l m after fl fm = start t.entries refl where
   start : (es : List (Entry L)) → es ≡ t.entries → is_false (places at (cut t.entries k)) l ≡ true
   start [] e = absurd (false≢true (ap (λ (xs : List (Entry L)). is_false (places at xs) l) e ∙ fl))
   start (d ∷ es) e =
-      (let a = entry_of_true at t.entries (opposite_place l) d fl in
-      let b = entry_in at t.entries k (opposite_place m) d fm in
+      (let a = entry_of_true at t.entries (negation l) d fl in
+      let b = entry_in at t.entries k (negation m) d fm in
       let le = after a.0 b.0 d a.1 b.1 a.2 b.2 in
-      in_entry at t.entries k (opposite_place l) a.0 d a.1 a.2 (omega (arith, le, b.3)))
+      in_entry at t.entries k (negation l) a.0 d a.1 a.2 (omega (arith, le, b.3)))
 
 -- the covers of a new clause
 pub new_covered : {L : Type 0} (at : L → ℕ) (t : Assignment L) (c : List ℕ) (k side : ℕ) → CanAdd at t c → 2 ≤ length c → side < 2 → is_false (places at (cut t.entries k)) (get_or c side 0) ≡ true → AllBut (places at (cut t.entries k)) [] c (get_or c (1 - side) 0)
 new_covered {L} at t c k side can long low f = elim (cases_eq side 0) [
-  | inl zero' ↦ absurd (false≢true (sym (cut_false at t.entries k (opposite_place (get_or c 0 0)) (can.first long)) ∙ ap (λ i. is_false (places at (cut t.entries k)) (get_or c i 0)) (sym zero') ∙ f))
+  | inl zero' ↦ absurd (false≢true (sym (cut_false at t.entries k (negation (get_or c 0 0)) (can.first long)) ∙ ap (λ i. is_false (places at (cut t.entries k)) (get_or c i 0)) (sym zero') ∙ f))
   | inr one' ↦ (let is : side ≡ 1 = omega (arith, low, one') in
       let f1 : is_false (places at (cut t.entries k)) (get_or c 1 0) ≡ true = ap (λ i. is_false (places at (cut t.entries k)) (get_or c i 0)) (sym is) ∙ f in
       elim (can.second long) [
-        | inl open' ↦ absurd (false≢true (sym (cut_false at t.entries k (opposite_place (get_or c 1 0)) open') ∙ f1))
+        | inl open' ↦ absurd (false≢true (sym (cut_false at t.entries k (negation (get_or c 1 0)) open') ∙ f1))
         | inr rest ↦ (λ l has ne. (
           (let e : get_or c has.0 0 ≡ l = get_or_default c has.0 0 l has.1 ∙ has.2 in
               elim (cases_eq has.0 0) [
@@ -232,14 +235,8 @@ covers_added {L} at C chains x t h can rest =
     }
 
 -- the standing
-head_open : (set : List ℕ) (x : ℕ) (xs : List ℕ) → is_false set x ≡ false → open_literals set (x ∷ xs) ≡ x ∷ open_literals set xs
-head_open set x xs h = ap (λ b. cond (not b) (x ∷ open_literals set xs) (open_literals set xs)) h
-
-head_shut : (set : List ℕ) (x : ℕ) (xs : List ℕ) → is_false set x ≡ true → open_literals set (x ∷ xs) ≡ open_literals set xs
-head_shut set x xs h = ap (λ b. cond (not b) (x ∷ open_literals set xs) (open_literals set xs)) h
-
 pub stands_true : (set : List ℕ) (x : ℕ) (xs : List ℕ) → is_false set x ≡ false → is_true set x ≡ true → Free ≡ standing_of set (x ∷ xs)
-stands_true set x xs f t = go (open_literals set xs) ∙ sym (ap (standing_open set) (head_open set x xs f)) where
+stands_true set x xs f t = go (open_literals set xs) ∙ sym (ap (standing_open set) (open_more set x xs f)) where
   go : (ys : List ℕ) → Free ≡ standing_open set (x ∷ ys)
   go [] = sym (ap (λ b. cond b Free Unit) t)
   go (y ∷ ys) = refl
@@ -249,13 +246,13 @@ either_of true = inl refl
 either_of false = inr refl
 
 pub stands_unit : (set : List ℕ) (x : ℕ) (xs : List ℕ) → is_false set x ≡ false → is_true set x ≡ false → ((j : ℕ) → j < length xs → is_false set (get_or xs j 0) ≡ true) → Unit ≡ standing_of set (x ∷ xs)
-stands_unit set x xs f t all = sym (ap (standing_open set) (head_open set x xs f ∙ ap (λ ys. x ∷ ys) (none' xs all)) ∙ ap (λ b. cond b Free Unit) t) where
+stands_unit set x xs f t all = sym (ap (standing_open set) (open_more set x xs f ∙ ap (λ ys. x ∷ ys) (none' xs all)) ∙ ap (λ b. cond b Free Unit) t) where
   none' : (xs : List ℕ) → ((j : ℕ) → j < length xs → is_false set (get_or xs j 0) ≡ true) → open_literals set xs ≡ []
   none' [] h = refl
-  none' (y ∷ ys) h = head_shut set y ys (h 0 (omega arith)) ∙ none' ys (λ j lt. h (suc j) (omega (arith, lt)))
+  none' (y ∷ ys) h = open_skip set y ys (h 0 (omega arith)) ∙ none' ys (λ j lt. h (suc j) (omega (arith, lt)))
 
 pub stands_false : (set : List ℕ) (x : ℕ) → is_false set x ≡ true → False ≡ standing_of set (x ∷ [])
-stands_false set x f = sym (ap (standing_open set) (head_shut set x [] f))
+stands_false set x f = sym (ap (standing_open set) (open_skip set x [] f))
 
 pub clause_inside : {L : Type 0} (at : L → ℕ) (n : ℕ) (clause : List L) → All (λ l. l < n) (map at clause) → All (λ l. at l < n) clause
 clause_inside at n clause h k d lt = (let a = h k 0 (let m = length-map clause at in omega (arith, m, lt)) in let e = get_or-map at clause k d 0 lt in omega (arith, a, e))

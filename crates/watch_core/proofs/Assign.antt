@@ -1,13 +1,16 @@
 -- What the tables of a trail keep when a literal becomes true.
-use Rattle.std.proofs.Common.{◌≡◌, ◌≢◌, ℕ, zero, suc, ◌+◌, ◌-◌, ◌*◌, ◌/◌, ◌%◌, ◌<◌, ◌≤◌, ◌==◌, ◌||◌, Bool, true, false, cond, List, [], ◌∷◌, ◌++◌, length, map, get_or, set, Option, None, Some, refl, sym, ◌∙◌, ap, subst, arith, inl, inr, ◌⊎◌, eq-eqb, eqb}
+use Rattle.std.proofs.Common.{◌≡◌, ◌≢◌, ℕ, suc, ◌+◌, ◌-◌, ◌*◌, ◌/◌, ◌<◌, ◌≤◌, ◌==◌, ◌||◌, Bool, true, false, cond, List, [], ◌∷◌, ◌++◌, length, map, get_or, set, Option, None, Some, refl, sym, ◌∙◌, ap, subst, arith, inl, inr, ◌⊎◌, eq-eqb, eqb}
 use Rattle.std.specs.List.{list_any, IsDistinct}
 use Rattle.std.proofs.lemmas.List.{map-append, length-set, length-append, length-map, get_or-set_same, get_or-set_other, get_or-map, get_or_append_left, get_or-append_right, get_or_default}
-use Rattle.std.proofs.lemmas.List.Elements.{All-push, recursion_from_All}
+use Rattle.std.proofs.lemmas.List.Elements.{All-push, recursion_from_All, Contains-get_or}
 use Rattle.std.proofs.lemmas.Map.Steps.{length-le_from_distinct_below}
 use Rattle.std.proofs.lemmas.List.Folds.{list_any-append}
 use Rattle.std.proofs.lemmas.Bool.{cases_eq, cases_lt, false≢true}
-use Rattle.std.proofs.lemmas.Bool.Decides.{eqb_tells, nat_tests}
-use Rattle.watch_core.specs.Places.{opposite_place, is_true, is_false}
+use Rattle.std.proofs.lemmas.Bool.Decides.{eqb_tells}
+use Rattle.literals_core.specs.Literal.{variable_of, negation}
+use Rattle.literals_core.specs.Truth.{is_true, is_false}
+use Rattle.literals_core.proofs.Negation.{negation_twice, negation_differs, same_variable}
+use Rattle.literals_core.proofs.Truth.{true_tested}
 use Rattle.watch_core.specs.Trail.{Entry, Assignment, places, value_of, entered}
 use Rattle.watch_core.specs.Kept.{blank, reason_of, entry_of, entries_of, IsKept}
 use Rattle.watch_core.specs.declared.trail.Mark.{Mark}
@@ -37,39 +40,12 @@ read_none set values x v trues falses e one two =
     let f : is_false set x ≡ false = sym falses ∙ not_eqb (get_or values x 0) 2 (λ h. two (e ∙ h)) in
     ap (λ b. cond b (Some false) None) (sym f) ∙ ap (λ b. cond b (Some true) (cond (is_false set x) (Some false) None)) (sym t)
 
+half_of : (a v : ℕ) → (a ≡ 2 * v) ⊎ (a ≡ 2 * v + 1) → variable_of a ≡ v
+half_of a v p = elim p [ inl plus ↦ omega (arith, plus) | inr minus ↦ omega (arith, minus) ]
+
 -- by its laws, the negation of a literal stands at the other place of its variable
-pub opposite_is : (a b v w : ℕ) → (a ≡ 2 * v) ⊎ (a ≡ 2 * v + 1) → (b ≡ 2 * w) ⊎ (b ≡ 2 * w + 1) → w ≡ v → b ≢ a → b ≡ opposite_place a
-opposite_is a b v w pa pb same ne =
-    elim (eqb_tells (a % 2) 0) [
-      | inl even ↦ (let up : opposite_place a ≡ a + 1 = ap (λ t. cond t (a + 1) (a - 1)) even.0 in
-          elim pa [
-            | inl a0 ↦ (elim pb [ inl b0 ↦ absurd (ne (omega (arith, a0, b0, same))) | inr b1 ↦ omega (arith, a0, b1, same, up) ])
-            | inr a1 ↦ absurd (omega (arith, a1, even.1))
-          ])
-      | inr odd ↦ (let down : opposite_place a ≡ a - 1 = ap (λ t. cond t (a + 1) (a - 1)) odd.0 in
-          elim pa [
-            | inl a0 ↦ absurd (odd.1 (omega (arith, a0)))
-            | inr a1 ↦ (elim pb [ inl b0 ↦ omega (arith, a1, b0, same, down) | inr b1 ↦ absurd (ne (omega (arith, a1, b1, same))) ])
-          ])
-    ]
-
-pub twice : (a : ℕ) → opposite_place (opposite_place a) ≡ a
-twice a = grind (arith, nat_tests)
-
-pub opposite_ne : (a : ℕ) → opposite_place a ≢ a
-opposite_ne a e = elim (eqb_tells (a % 2) 0) [
-  | inl even ↦ (let up : opposite_place a ≡ a + 1 = ap (λ t. cond t (a + 1) (a - 1)) even.0 in omega (arith, up, e))
-  | inr odd ↦ (let down : opposite_place a ≡ a - 1 = ap (λ t. cond t (a + 1) (a - 1)) odd.0 in odd.1 (omega (arith, down, e)))
-]
-
-same_variable : (a b : ℕ) → a / 2 ≡ b / 2 → (a ≡ b) ⊎ (a ≡ opposite_place b)
-same_variable a b h = elim (cases_eq a b) [
-  | inl same ↦ inl same
-  | inr other ↦ inr (elim (eqb_tells (b % 2) 0) [
-    | inl even ↦ (let up : opposite_place b ≡ b + 1 = ap (λ t. cond t (b + 1) (b - 1)) even.0 in omega (arith, up, even.1, h, other))
-    | inr odd ↦ (let down : opposite_place b ≡ b - 1 = ap (λ t. cond t (b + 1) (b - 1)) odd.0 in omega (arith, down, odd.1, h, other))
-  ])
-]
+pub negation_is : (a b v w : ℕ) → (a ≡ 2 * v) ⊎ (a ≡ 2 * v + 1) → (b ≡ 2 * w) ⊎ (b ≡ 2 * w + 1) → w ≡ v → b ≢ a → b ≡ negation a
+negation_is a b v w pa pb same ne = elim (same_variable b a (half_of b w pb ∙ same ∙ sym (half_of a v pa))) [ inl equal ↦ absurd (ne equal) | inr other ↦ other ]
 
 pub value_none : (set : List ℕ) (x : ℕ) → value_of set x ≡ None → (is_true set x ≡ false) × (is_false set x ≡ false)
 value_none set x h = cases (is_true set x) (is_false set x) h where
@@ -79,12 +55,7 @@ value_none set x h = cases (is_true set x) (is_false set x) h where
   cases false false h = (refl, refl)
 
 pub member_true : (xs : List ℕ) (i : ℕ) (d : ℕ) → i < length xs → is_true xs (get_or xs i d) ≡ true
-member_true [] i d lt = absurd (omega (arith, lt))
-member_true (x ∷ xs) zero d lt = ap (λ b. b || is_true xs x) (eq-eqb x x refl)
-member_true (x ∷ xs) (suc i) d lt = orb_right (x == get_or xs i d) (is_true xs (get_or xs i d)) (member_true xs i d (omega (arith, lt))) where
-  orb_right : (a b : Bool) → b ≡ true → (a || b) ≡ true
-  orb_right true b h = refl
-  orb_right false b h = h
+member_true xs i d lt = true_tested xs (get_or xs i d) (Contains-get_or xs i d lt)
 
 pub more_true : (xs : List ℕ) (p x : ℕ) → is_true (xs ++ p ∷ []) x ≡ (is_true xs x || ((p == x) || false))
 more_true xs p x = list_any-append (λ y. y == x) xs (p ∷ [])
@@ -97,7 +68,7 @@ pub or_none : (a : Bool) → (a || (false || false)) ≡ a
 or_none true = refl
 or_none false = refl
 
-pub kept_assign : {L : Type 0} (at : L → ℕ) (values : List ℕ) (marks : List Mark) (order : List L) (capacity capacity' taken q : ℕ) (l : L) (m : Mark) → IsKept at values marks order capacity taken → at l < length values → q ≡ opposite_place (at l) → value_of (map at order) (at l) ≡ None → capacity ≤ capacity'
+pub kept_assign : {L : Type 0} (at : L → ℕ) (values : List ℕ) (marks : List Mark) (order : List L) (capacity capacity' taken q : ℕ) (l : L) (m : Mark) → IsKept at values marks order capacity taken → at l < length values → q ≡ negation (at l) → value_of (map at order) (at l) ≡ None → capacity ≤ capacity'
     → IsKept at (set (set values (at l) 1) q 2) (set marks (at l / 2) m) (order ++ l ∷ []) capacity' taken
 kept_assign {L} at values marks order capacity capacity' taken q l m k lt eq free wide =
     let p : ℕ = at l in
@@ -107,7 +78,7 @@ kept_assign {L} at values marks order capacity capacity' taken q l m k lt eq fre
     let grown : ys ≡ xs ++ p ∷ [] = map-append at order (l ∷ []) in
     let out = value_none xs p free in
     let size : length values' ≡ length values = simp length-set in
-    let qne : q ≢ p = λ e. opposite_ne p (sym eq ∙ e) in
+    let qne : q ≢ p = λ e. negation_differs p (sym eq ∙ e) in
     record {
       sizes = simp length-set k.sizes;
       inside = λ i d h. (let old = All-push (λ x. at x < length values) order l k.inside lt i d h in omega (arith, old, size));
@@ -141,13 +112,13 @@ kept_assign {L} at values marks order capacity capacity' taken q l m k lt eq fre
                 ])
           ]);
       falses = λ x h. (let hx : x < length values = omega (arith, h, size) in
-          let ox : ℕ = opposite_place x in
+          let ox : ℕ = negation x in
           elim (cases_eq x q) [
             | inl isq ↦ (let v : get_or values' x 0 ≡ 2 = ap (λ j. get_or values' j 0) isq ∙ get_or-set_same (set values p 1) q 2 0 (simp length-set (omega (arith, isq, hx))) in
-                let back : p ≡ ox = sym (ap opposite_place (isq ∙ eq) ∙ twice p) in
+                let back : p ≡ ox = sym (ap negation (isq ∙ eq) ∙ negation_twice p) in
                 ap (λ n. n == 2) v ∙ sym (ap (λ s. is_true s ox) grown ∙ more_true xs p ox ∙ ap (λ b. is_true xs ox || (b || false)) (eq-eqb p ox back) ∙ or_true (is_true xs ox)))
             | inr notq ↦ (let v1 : get_or values' x 0 ≡ get_or (set values p 1) x 0 = get_or-set_other (set values p 1) q x 2 0 notq in
-                let ne : (p == ox) ≡ false = not_eqb p ox (λ e. notq (sym (twice x) ∙ sym (ap opposite_place e) ∙ sym eq)) in
+                let ne : (p == ox) ≡ false = not_eqb p ox (λ e. notq (sym (negation_twice x) ∙ sym (ap negation e) ∙ sym eq)) in
                 elim (cases_eq x p) [
                   | inl isp ↦ (let v : get_or (set values p 1) x 0 ≡ 1 = ap (λ j. get_or (set values p 1) j 0) isp ∙ get_or-set_same values p 1 0 lt in
                       let no : is_true xs ox ≡ false = ap (is_false xs) isp ∙ out.1 in
@@ -237,7 +208,7 @@ value_unset at values marks order capacity taken place p v n entries k e size sa
     read_none (map at order) values p v (k.trues p inside) (k.falses p inside) r one two ∙ ap (λ s. value_of s p) (course_set at marks order entries e)
 
 -- what `assign` leaves, as its body meets it
-pub course_assigned : {L : Type 0} (at : L → ℕ) (values : List ℕ) (marks : List Mark) (order order' : List L) (capacity capacity' taken place q n : ℕ) (l : L) (m : Mark) (entries : List (Entry L)) → IsKept at values marks order capacity taken → entries_of at marks order ≡ entries → length marks ≡ n → place ≡ at l → at l < 2 * n → q ≡ opposite_place (at l)
+pub course_assigned : {L : Type 0} (at : L → ℕ) (values : List ℕ) (marks : List Mark) (order order' : List L) (capacity capacity' taken place q n : ℕ) (l : L) (m : Mark) (entries : List (Entry L)) → IsKept at values marks order capacity taken → entries_of at marks order ≡ entries → length marks ≡ n → place ≡ at l → at l < 2 * n → q ≡ negation (at l)
     → value_of (places at entries) (at l) ≡ None → order' ≡ order ++ l ∷ [] → capacity ≤ capacity'
     → IsKept at (set (set values place 1) q 2) (set marks (place / 2) m) order' capacity' taken × (entries_of at (set marks (place / 2) m) order' ≡ entries ++ record { literal = l; level = m.level; reason = reason_of m.reason } ∷ [])
 course_assigned {L} at values marks order order' capacity capacity' taken place q n l m entries k e size same lt eq free grown wide =
@@ -254,8 +225,8 @@ pub course_room : {L : Type 0} (at : L → ℕ) (values : List ℕ) (marks : Lis
 course_room at values marks order capacity taken n l entries k e size lt free =
     let inside : at l < length values = omega (arith, lt, size, k.sizes) in
     let open' : value_of (map at order) (at l) ≡ None = ap (λ s. value_of s (at l)) (course_set at marks order entries e) ∙ free in
-    let more = kept_assign at values marks order capacity capacity taken (opposite_place (at l)) l blank k inside refl open' (omega arith) in
-    let short = order_short at (set (set values (at l) 1) (opposite_place (at l)) 2) (set marks (at l / 2) blank) (order ++ l ∷ []) capacity taken l more in
+    let more = kept_assign at values marks order capacity capacity taken (negation (at l)) l blank k inside refl open' (omega arith) in
+    let short = order_short at (set (set values (at l) 1) (negation (at l)) 2) (set marks (at l / 2) blank) (order ++ l ∷ []) capacity taken l more in
     let grown : length (order ++ l ∷ []) ≡ length order + 1 = length-append order (l ∷ []) in
     let same : length (set marks (at l / 2) blank) ≡ length marks = length-set marks (at l / 2) blank in
     omega (arith, short, grown, same, k.room)

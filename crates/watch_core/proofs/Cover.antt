@@ -1,13 +1,16 @@
 -- How the facts on watched literals go on.
-use Rattle.std.proofs.Common.{◌≡◌, ◌≢◌, ℕ, zero, suc, ◌+◌, ◌-◌, ◌*◌, ◌/◌, ◌%◌, ◌<◌, ◌≤◌, ◌==◌, ◌||◌, not, Bool, true, false, cond, List, [], ◌∷◌, ◌++◌, length, get_or, set, swap, refl, sym, ◌∙◌, ap, subst, arith, inl, inr, ◌⊎◌, eq-eqb}
+use Rattle.std.proofs.Common.{◌≡◌, ◌≢◌, ℕ, zero, suc, ◌+◌, ◌-◌, ◌*◌, ◌/◌, ◌%◌, ◌<◌, ◌≤◌, ◌==◌, ◌||◌, Bool, true, false, List, [], ◌∷◌, ◌++◌, length, get_or, set, swap, refl, sym, ◌∙◌, ap, subst, arith, inl, inr, ◌⊎◌, eq-eqb}
 use Rattle.std.specs.List.{Contains, list_any}
 use Rattle.std.proofs.lemmas.List.{length-set, get_or-set_same, get_or-set_other, get_or_default}
 use Rattle.std.proofs.lemmas.List.Elements.{Contains-get_or}
 use Rattle.std.proofs.lemmas.List.Sorted.{Contains-permutation, IsPermutation-swap}
 use Rattle.std.proofs.lemmas.Bool.{cases_eq, false≢true}
 use Rattle.std.proofs.lemmas.Bool.Decides.{eqb_tells}
-use Rattle.watch_core.specs.Places.{opposite_place, is_true, is_false, open_literals}
-use Rattle.watch_core.specs.Settled.{IsSettled, AllSettled}
+use Rattle.literals_core.specs.Literal.{negation}
+use Rattle.literals_core.specs.Truth.{is_true, is_false}
+use Rattle.literals_core.specs.Settled.{IsSettledByCount}
+use Rattle.literals_core.proofs.Truth.{open_more}
+use Rattle.watch_core.specs.Settled.{AllSettled}
 use Rattle.watch_core.specs.Cover.{clause_of, watched_at, beside, HasTrue, AllBut, AllCovered}
 use Rattle.watch_core.proofs.Assign.{more_true, or_none, not_eqb}
 use Rattle.watch_core.proofs.Watches.{swap_first, swap_other}
@@ -59,15 +62,15 @@ has_more xs p c (l, has, t) = (l, has, still_true xs p l t)
 -- covers stay where a literal becomes true and waits
 pub covered_more : (strong : Bool) (set waits : List ℕ) (clauses : List (List ℕ)) (p : ℕ) → is_true set p ≡ false → AllCovered strong set waits clauses → AllCovered strong (set ++ p ∷ []) (waits ++ p ∷ []) clauses
 covered_more strong set waits clauses p free all s known long isfalse away =
-    let quiet = true_neither waits p (opposite_place (watched_at clauses s)) away in
-    elim (true_either set p (opposite_place (watched_at clauses s)) isfalse) [
+    let quiet = true_neither waits p (negation (watched_at clauses s)) away in
+    elim (true_either set p (negation (watched_at clauses s)) isfalse) [
       | inr new ↦ absurd (quiet.1 new)
       | inl old ↦ (elim (all s known long old quiet.0) [
         | inl some ↦ inl (has_more set p (clause_of clauses s) some)
         | inr rest ↦ inr (
           (λ l has ne. (let both = rest.0 l has ne in
-              (still_true set p (opposite_place l) both.0, not_more waits p (opposite_place l) both.1 (λ e. false≢true (sym free ∙ ap (is_true set) e ∙ both.0))))),
-          λ st. still_true waits p (opposite_place (beside clauses s)) (rest.1 st),
+              (still_true set p (negation l) both.0, not_more waits p (negation l) both.1 (λ e. false≢true (sym free ∙ ap (is_true set) e ∙ both.0))))),
+          λ st. still_true waits p (negation (beside clauses s)) (rest.1 st),
         )
       ])
     ]
@@ -84,22 +87,22 @@ other_side s = omega arith
 
 -- covers stay where the first waiting literal has been taken in, once each clause that watches its negation has a true literal
 pub covered_taken : (set waits : List ℕ) (clauses : List (List ℕ)) (p : ℕ) → AllCovered true set (p ∷ waits) clauses
-    → ((s : ℕ) → s / 2 < length clauses → 2 ≤ length (clause_of clauses s) → opposite_place (watched_at clauses s) ≡ p → HasTrue set (clause_of clauses s))
+    → ((s : ℕ) → s / 2 < length clauses → 2 ≤ length (clause_of clauses s) → negation (watched_at clauses s) ≡ p → HasTrue set (clause_of clauses s))
     → AllCovered true set waits clauses
 covered_taken set waits clauses p all walked s known long isfalse away =
-    elim (cases_eq (opposite_place (watched_at clauses s)) p) [
+    elim (cases_eq (negation (watched_at clauses s)) p) [
       | inl same ↦ inl (walked s known long same)
-      | inr ne ↦ (elim (all s known long isfalse (ap (λ b. b || is_false waits (watched_at clauses s)) (not_eqb p (opposite_place (watched_at clauses s)) (λ e. ne (sym e))) ∙ away)) [
+      | inr ne ↦ (elim (all s known long isfalse (ap (λ b. b || is_false waits (watched_at clauses s)) (not_eqb p (negation (watched_at clauses s)) (λ e. ne (sym e))) ∙ away)) [
         | inl some ↦ inl some
         | inr rest ↦ (let P : ℕ → Type 0 = λ i. HasTrue set (get_or clauses i []) in
             let o : ℕ = 2 * (s / 2) + (1 - s % 2) in
             let there : get_or clauses (o / 2) [] ≡ clause_of clauses s = ap (λ i. get_or clauses i []) (other_half s) in
             let sees : watched_at clauses o ≡ beside clauses s = ap (λ i. get_or (get_or clauses (o / 2) []) i 0) (other_side s) ∙ ap (λ (c : List ℕ). get_or c (1 - s % 2) 0) there in
-            elim (cases_eq (opposite_place (beside clauses s)) p) [
-              | inl same ↦ inl (subst P (other_half s) (walked o (omega (arith, other_half s, known)) (let n = ap length there in omega (arith, n, long)) (ap opposite_place sees ∙ same)))
+            elim (cases_eq (negation (beside clauses s)) p) [
+              | inl same ↦ inl (subst P (other_half s) (walked o (omega (arith, other_half s, known)) (let n = ap length there in omega (arith, n, long)) (ap negation sees ∙ same)))
               | inr other ↦ inr (
-                (λ l has no. (let both = rest.0 l has no in (both.0, (or_neither (p == opposite_place l) (is_false waits l) both.1).1))),
-                λ st. sym (ap (λ b. b || is_false waits (beside clauses s)) (not_eqb p (opposite_place (beside clauses s)) (λ e. other (sym e)))) ∙ rest.1 st,
+                (λ l has no. (let both = rest.0 l has no in (both.0, (or_neither (p == negation l) (is_false waits l) both.1).1))),
+                λ st. sym (ap (λ b. b || is_false waits (beside clauses s)) (not_eqb p (negation (beside clauses s)) (λ e. other (sym e)))) ∙ rest.1 st,
               )
             ])
       ])
@@ -150,10 +153,7 @@ any_to set (x ∷ xs) h = elim (or_either (is_true set x) (list_any (is_true set
   | inr later ↦ (let r = any_to set xs later in (r.0, (suc r.1.0, omega (arith, r.1.1), r.1.2), r.2))
 ]
 
-keeps_open : (set : List ℕ) (x : ℕ) (xs : List ℕ) → is_false set x ≡ false → length (open_literals set (x ∷ xs)) ≡ suc (length (open_literals set xs))
-keeps_open set x xs h = ap (λ b. length (cond (not b) (x ∷ open_literals set xs) (open_literals set xs))) h
-
-settled_one : (set : List ℕ) (c : List ℕ) → 2 ≤ length c → (is_false set (get_or c 0 0) ≡ true → HasTrue set c) → (is_false set (get_or c 1 0) ≡ true → HasTrue set c) → IsSettled set c
+settled_one : (set : List ℕ) (c : List ℕ) → 2 ≤ length c → (is_false set (get_or c 0 0) ≡ true → HasTrue set c) → (is_false set (get_or c 1 0) ≡ true → HasTrue set c) → IsSettledByCount set c
 settled_one set [] long a b = absurd (omega (arith, long))
 settled_one set (x ∷ []) long a b = absurd (omega (arith, long))
 settled_one set (x ∷ y ∷ xs) long a b =
@@ -161,7 +161,7 @@ settled_one set (x ∷ y ∷ xs) long a b =
       | inl fa ↦ inl (any_from set (x ∷ y ∷ xs) (a fa))
       | inr oa ↦ (elim (true_or_false (is_false set y)) [
         | inl fb ↦ inl (any_from set (x ∷ y ∷ xs) (b fb))
-        | inr ob ↦ inr (let first = keeps_open set x (y ∷ xs) oa in let second = keeps_open set y xs ob in omega (arith, first, second))
+        | inr ob ↦ inr (let first = ap length (open_more set x (y ∷ xs) oa) in let second = ap length (open_more set y xs ob) in omega (arith, first, second))
       ])
     ]
 
@@ -169,7 +169,7 @@ settled_one set (x ∷ y ∷ xs) long a b =
 pub all_settled : (set : List ℕ) (clauses : List (List ℕ)) → AllCovered true set [] clauses → AllSettled set clauses
 all_settled set clauses all i d lt long =
     let e : get_or clauses i d ≡ get_or clauses i [] = get_or_default clauses i d [] lt in
-    let P : List ℕ → Type 0 = λ c. IsSettled set c in
+    let P : List ℕ → Type 0 = λ c. IsSettledByCount set c in
     let side : (s : ℕ) → s / 2 ≡ i → is_false set (watched_at clauses s) ≡ true → HasTrue set (clause_of clauses s) = λ s h f.
     (elim (all s (omega (arith, h, lt)) (let n = ap length (ap (λ k. get_or clauses k []) h) in let m = ap length e in omega (arith, n, m, long)) f refl) [
       | inl some ↦ some

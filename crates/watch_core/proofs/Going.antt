@@ -9,7 +9,8 @@ use Rattle.std.proofs.lemmas.Map.Keys.{IsDistinct-IsPermutation}
 use Rattle.std.proofs.lemmas.Bool.{cases_eq, cases_lt, false≢true}
 use Rattle.std.proofs.lemmas.Bool.Decides.{eqb_tells, leb_tells}
 use Rattle.arena_core.specs.Chains.{put_first, taken_out}
-use Rattle.watch_core.specs.Places.{opposite_place, is_true, is_false}
+use Rattle.literals_core.specs.Literal.{negation}
+use Rattle.literals_core.specs.Truth.{is_true, is_false}
 use Rattle.watch_core.specs.Trail.{Entry, Assignment, IsTrail, places, cut, waiting, entered, assigned, one_taken}
 use Rattle.watch_core.specs.Settled.{SettledBelow, IsAtRest}
 use Rattle.watch_core.specs.Cover.{clause_of, watched_at, HasTrue, AllCovered, IsCovered, IsPropagating}
@@ -76,7 +77,7 @@ covers_moved strong at clauses chains t s j g h known far lj eg open' isfalse =
     record {
       trail = h.trail;
       watches = watches_moved clauses chains s j g h.watches known far lj eg (omega (arith, eg, inside, h.size));
-      covered = λ k lk. covered_moved strong (places at (cut t.entries k)) (places at (cut (waiting t) k)) clauses s j known far lj (cut_false at t.entries k (opposite_place (get_or xs j 0)) open'') (λ e. false≢true (sym open'' ∙ ap (is_false (places at t.entries)) e ∙ isfalse)) (h.covered k lk);
+      covered = λ k lk. covered_moved strong (places at (cut t.entries k)) (places at (cut (waiting t) k)) clauses s j known far lj (cut_false at t.entries k (negation (get_or xs j 0)) open'') (λ e. false≢true (sym open'' ∙ ap (is_false (places at t.entries)) e ∙ isfalse)) (h.covered k lk);
       inside = λ c l m. h.inside c l (Contains-permutation (get_or (set clauses (s / 2) (swap xs (s % 2) j)) c []) (get_or clauses c []) l (IsPermutation-sym (get_or clauses c []) (get_or (set clauses (s / 2) (swap xs (s % 2) j)) c []) (only.same c)) m);
       distinct = λ c. IsDistinct-IsPermutation (λ x y. x == y) eqb_flips (get_or clauses c []) (get_or (set clauses (s / 2) (swap xs (s % 2) j)) c []) (only.same c) (h.distinct c);
       size = places_kept chains (put_first (taken_out chains s) g s) g s (2 * t.variables) refl h.size;
@@ -134,7 +135,7 @@ trail_taken at t h lt = record { inside = h.inside; leveled = h.leveled; within 
 
 -- the first waiting literal has been taken in
 pub going_taken : {L : Type 0} (at : L → ℕ) (clauses chains : List (List ℕ)) (t : Assignment L) (e : Entry L) (rest : List (Entry L)) → IsPropagating at clauses chains t → waiting t ≡ e ∷ rest → t.taken < length t.entries
-    → ((s : ℕ) → s / 2 < length clauses → 2 ≤ length (clause_of clauses s) → opposite_place (watched_at clauses s) ≡ at e.literal → HasTrue (places at t.entries) (clause_of clauses s))
+    → ((s : ℕ) → s / 2 < length clauses → 2 ≤ length (clause_of clauses s) → negation (watched_at clauses s) ≡ at e.literal → HasTrue (places at t.entries) (clause_of clauses s))
     → IsPropagating at clauses chains (one_taken t)
 going_taken {L} at clauses chains t e rest h first lt walked =
     let more : drop t.taken t.entries ≡ get_or t.entries t.taken e ∷ drop (t.taken + 1) t.entries = drop_more t.entries t.taken e lt in
@@ -157,7 +158,7 @@ going_taken {L} at clauses chains t e rest h first lt walked =
               let P : ℕ → Type 0 = λ i. AllCovered true (places at (cut t.entries i)) (places at (cut (drop (t.taken + 1) t.entries) i)) clauses in
               let Q : List (Entry L) → Type 0 = λ es. AllCovered true (places at (cut t.entries t.level)) (places at es) clauses in
               let R : List (Entry L) → Type 0 = λ es. AllCovered true (places at (cut t.entries t.level)) (places at (cut es t.level)) clauses in
-              let S : List (Entry L) → Type 0 = λ es. (s : ℕ) → s / 2 < length clauses → 2 ≤ length (clause_of clauses s) → opposite_place (watched_at clauses s) ≡ at e.literal → HasTrue (places at es) (clause_of clauses s) in
+              let S : List (Entry L) → Type 0 = λ es. (s : ℕ) → s / 2 < length clauses → 2 ≤ length (clause_of clauses s) → negation (watched_at clauses s) ≡ at e.literal → HasTrue (places at es) (clause_of clauses s) in
               let was : AllCovered true (places at (cut t.entries t.level)) (at e.literal ∷ places at (cut rest t.level)) clauses = subst Q (kept_in e rest t.level (omega (arith, here))) (subst R first (h.covers.covered t.level (omega arith))) in
               subst P same (subst R (sym left) (covered_taken (places at (cut t.entries t.level)) (places at (cut rest t.level)) clauses (at e.literal) was (subst S (sym whole) walked))))
         ];

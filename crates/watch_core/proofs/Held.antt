@@ -1,16 +1,20 @@
 -- What `Watched` keeps between its calls.
-use Rattle.std.proofs.Common.{◌≡◌, ◌≢◌, ℕ, zero, suc, ◌+◌, ◌*◌, ◌/◌, ◌<◌, ◌≤◌, ◌==◌, ◌||◌, not, Bool, true, false, cond, List, [], ◌∷◌, length, map, get_or, set, take, drop, min, Option, None, Some, refl, sym, ◌∙◌, ap, subst, arith, inl, inr, ◌⊎◌, eq-eqb, replicate, leb}
+use Rattle.std.proofs.Common.{◌≡◌, ℕ, zero, suc, ◌+◌, ◌*◌, ◌/◌, ◌<◌, ◌≤◌, ◌==◌, ◌||◌, Bool, true, false, List, [], ◌∷◌, length, map, get_or, set, take, drop, min, Option, None, Some, refl, sym, ◌∙◌, ap, subst, arith, inl, inr, ◌⊎◌, replicate, leb}
 use Rattle.std.specs.List.{All, Contains, list_any, IsDistinct}
 use Rattle.std.specs.Option.{IfSome, IfNone}
 use Rattle.std.proofs.lemmas.List.{length-replicate, get_or-replicate, get_or_past, length-take-le, length-map}
-use Rattle.std.proofs.lemmas.List.Elements.{All-weaker, All-contains, All-from_recursion}
-use Rattle.std.proofs.lemmas.Map.Keys.{IsDistinct-tail, IsDistinct-head}
+use Rattle.std.proofs.lemmas.List.Elements.{All-weaker}
 use Rattle.std.proofs.lemmas.Bool.{cases_eq, cases_lt, false≢true}
 use Rattle.std.proofs.lemmas.Bool.Decides.{leb_tells}
 use Rattle.arena_core.specs.Chains.{chain_at}
-use Rattle.watch_core.specs.Places.{opposite_place, is_true, is_false, open_literals, placed}
+use Rattle.literals_core.specs.Literal.{negation}
+use Rattle.literals_core.specs.Truth.{IsFalseUnder, is_true, is_false}
+use Rattle.literals_core.specs.Settled.{HasTwoOpen, IsSettledByCount}
+use Rattle.literals_core.proofs.Truth.{tested_true}
+use Rattle.literals_core.proofs.Settled.{two_by_count}
+use Rattle.watch_core.specs.Places.{placed}
 use Rattle.watch_core.specs.Trail.{Entry, Assignment, IsTrail, places, cut, waiting, value_of, entered, undone, empty_trail}
-use Rattle.watch_core.specs.Settled.{IsFalseClause, IsSettled, CanPropagate, Outcome}
+use Rattle.watch_core.specs.Settled.{IsFalseClause, CanPropagate, Outcome}
 use Rattle.watch_core.specs.Cover.{clause_of, beside, HasTrue, AllBut, AllCovered, IsCovered, IsPropagating}
 use Rattle.watch_core.specs.Propagates.{Propagates}
 use Rattle.watch_core.specs.Watched.{IsHeld}
@@ -98,36 +102,18 @@ held_undone {L} at clauses chains room k t t' h is trail le =
     let T : Assignment L → Type 0 = λ u. IsTrail at u in
     subst P (sym is) (record { covers = covers_undone false at (placed at clauses) chains t k h.covers le (subst T is trail); fits = h.fits })
 
--- at most one literal is open, where all but one are false
-open_none : (set : List ℕ) (xs : List ℕ) → ((l : ℕ) → Contains xs l → is_false set l ≡ true) → open_literals set xs ≡ []
-open_none set [] h = refl
-open_none set (x ∷ xs) h = ap (λ b. cond (not b) (x ∷ open_literals set xs) (open_literals set xs)) (h x (0, omega arith, refl)) ∙ open_none set xs (λ l has. h l (suc has.0, omega (arith, has.1), has.2))
-
-open_one : (set : List ℕ) (o : ℕ) (xs : List ℕ) → IsDistinct (λ x y. x == y) xs → ((l : ℕ) → Contains xs l → l ≢ o → is_false set l ≡ true) → length (open_literals set xs) ≤ 1
-open_one set o [] dis h = omega arith
-open_one set o (x ∷ xs) dis h = elim (cases_eq x o) [
-  | inl same ↦ (let rest : open_literals set xs ≡ [] = open_none set xs (λ l has. h l (suc has.0, omega (arith, has.1), has.2) (λ e. apart l has (same ∙ sym e))) in
-      elim (either (is_false set x)) [
-        | inl f ↦ (let n = ap length (ap (λ b. cond (not b) (x ∷ open_literals set xs) (open_literals set xs)) f ∙ rest) in omega (arith, n))
-        | inr t ↦ (let n = ap length (ap (λ b. cond (not b) (x ∷ open_literals set xs) (open_literals set xs)) t ∙ ap (λ ys. x ∷ ys) rest) in omega (arith, n))
-      ])
-  | inr ne ↦ (let n = ap length (ap (λ b. cond (not b) (x ∷ open_literals set xs) (open_literals set xs)) (h x (0, omega arith, refl) ne)) in
-      let m = open_one set o xs (IsDistinct-tail (λ x y. x == y) x xs dis) (λ l has. h l (suc has.0, omega (arith, has.1), has.2)) in omega (arith, n, m))
-]
-  where
-    either : (b : Bool) → (b ≡ true) ⊎ (b ≡ false)
-    either true = inl refl
-    either false = inr refl
-
-    apart : (l : ℕ) → Contains xs l → x ≢ l
-    apart l has e = (let a = All-contains (λ y. (x == y) ≡ false) xs l (All-from_recursion (λ y. (x == y) ≡ false) xs (IsDistinct-head (λ x y. x == y) x xs dis)) has in false≢true (sym a ∙ eq-eqb x l e))
+-- two literals are not open, where all but one are false
+not_two : (set waits c : List ℕ) (o : ℕ) → AllBut set waits c o → HasTwoOpen set c → ⊥
+not_two set waits c o but two = two.differ (only two.first two.among.0 two.not_false.0 ∙ sym (only two.second two.among.1 two.not_false.1)) where
+  only : (x : ℕ) → Contains c x → ¬ IsFalseUnder set x → x ≡ o
+  only x has stays = elim (cases_eq x o) [ inl same ↦ same | inr other ↦ absurd (stays (tested_true set (negation x) (but x has other).0)) ]
 
 -- the condition of `propagate` makes the covers strong
-strong_one : (set waits c : List ℕ) (o : ℕ) → IsDistinct (λ x y. x == y) c → (IsSettled set c ⊎ (list_any (λ l. is_true waits (opposite_place l)) c ≡ true)) → HasTrue set c ⊎ (AllBut set waits c o × (false ≡ true → is_false waits o ≡ true))
+strong_one : (set waits c : List ℕ) (o : ℕ) → IsDistinct (λ x y. x == y) c → (IsSettledByCount set c ⊎ (list_any (λ l. is_true waits (negation l)) c ≡ true)) → HasTrue set c ⊎ (AllBut set waits c o × (false ≡ true → is_false waits o ≡ true))
     → HasTrue set c ⊎ (AllBut set waits c o × (true ≡ true → is_false waits o ≡ true))
 strong_one set waits c o dis ready (inl some) = inl some
 strong_one set waits c o dis (inl (inl some)) (inr rest) = inl (any_to set c some)
-strong_one set waits c o dis (inl (inr two)) (inr rest) = (let n = open_one set o c dis (λ l has ne. (rest.0 l has ne).0) in absurd (omega (arith, n, two)))
+strong_one set waits c o dis (inl (inr two)) (inr rest) = absurd (not_two set waits c o rest.0 (two_by_count set c dis two))
 strong_one set waits c o dis (inr one') (inr rest) =
     (let w = any_waits waits c one' in elim (cases_eq w.0 o) [
       | inl same ↦ inr (rest.0, λ e. ap (is_false waits) (sym same) ∙ w.2)
@@ -138,9 +124,9 @@ strong_one set waits c o dis (inr one') (inr rest) =
     either true b h = inl refl
     either false b h = inr h
 
-    any_waits : (waits xs : List ℕ) → list_any (λ l. is_true waits (opposite_place l)) xs ≡ true → (l : ℕ) × Contains xs l × (is_false waits l ≡ true)
+    any_waits : (waits xs : List ℕ) → list_any (λ l. is_true waits (negation l)) xs ≡ true → (l : ℕ) × Contains xs l × (is_false waits l ≡ true)
     any_waits waits [] h = absurd (false≢true h)
-    any_waits waits (x ∷ xs) h = elim (either (is_false waits x) (list_any (λ l. is_true waits (opposite_place l)) xs) h) [
+    any_waits waits (x ∷ xs) h = elim (either (is_false waits x) (list_any (λ l. is_true waits (negation l)) xs) h) [
       | inl here ↦ (x, (0, omega arith, refl), here)
       | inr later ↦ (let r = any_waits waits xs later in (r.0, (suc r.1.0, omega (arith, r.1.1), r.1.2), r.2))
     ]
@@ -154,9 +140,9 @@ going_from {L} at clauses chains t h can = record {
         strong_one (places at (cut t.entries q)) (places at (cut (waiting t) q)) (clause_of clauses s) (beside clauses s) (h.distinct (s / 2)) (elim (cases_lt q t.level) [
           | inl less ↦ inl (can.below q less (s / 2) [] known long)
           | inr top ↦ (let same : t.level ≡ q = omega (arith, top, lq) in
-              let P : ℕ → Type 0 = λ k. IsSettled (places at (cut t.entries k)) (clause_of clauses s) ⊎ (list_any (λ l. is_true (places at (cut (waiting t) k)) (opposite_place l)) (clause_of clauses s) ≡ true) in
-              let Q : List (Entry L) → Type 0 = λ es. IsSettled (places at es) (clause_of clauses s) ⊎ (list_any (λ l. is_true (places at (cut (waiting t) t.level)) (opposite_place l)) (clause_of clauses s) ≡ true) in
-              let R : List (Entry L) → Type 0 = λ es. IsSettled (places at t.entries) (clause_of clauses s) ⊎ (list_any (λ l. is_true (places at es) (opposite_place l)) (clause_of clauses s) ≡ true) in
+              let P : ℕ → Type 0 = λ k. IsSettledByCount (places at (cut t.entries k)) (clause_of clauses s) ⊎ (list_any (λ l. is_true (places at (cut (waiting t) k)) (negation l)) (clause_of clauses s) ≡ true) in
+              let Q : List (Entry L) → Type 0 = λ es. IsSettledByCount (places at es) (clause_of clauses s) ⊎ (list_any (λ l. is_true (places at (cut (waiting t) t.level)) (negation l)) (clause_of clauses s) ≡ true) in
+              let R : List (Entry L) → Type 0 = λ es. IsSettledByCount (places at t.entries) (clause_of clauses s) ⊎ (list_any (λ l. is_true (places at es) (negation l)) (clause_of clauses s) ≡ true) in
               let all : All (λ (e : Entry L). e.level ≤ t.level) (waiting t) = All-weaker (λ (e : Entry L). e.level ≡ t.level) (λ (e : Entry L). e.level ≤ t.level) (λ e is. omega (arith, is)) (waiting t) can.current in
               subst P same (subst Q (sym (cut_all t.entries t.level h.trail.leveled.below)) (subst R (sym (cut_all (waiting t) t.level all)) (can.whole (s / 2) [] known long))))
         ]) (h.covered q lq s known long f away);

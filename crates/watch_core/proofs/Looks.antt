@@ -10,8 +10,8 @@ use Rattle.std.proofs.lemmas.Bool.{false≢true}
 use Rattle.std.proofs.lemmas.Bool.Decides.{eqb_tells}
 use Rattle.std.specs.Cmp.{IsEquivalence}
 use Rattle.arena_core.specs.Chains.{chain_at, AreApart}
+use Rattle.literals_core.specs.Literal.{negation}
 use Rattle.watch_core.specs.Looks.{occurrences, false_occurrences}
-use Rattle.watch_core.specs.Places.{opposite_place}
 use Rattle.watch_core.specs.Trail.{Entry, Assignment, places, waiting, order, one_taken}
 use Rattle.watch_core.proofs.Visit.{first_is}
 use Rattle.std.proofs.lemmas.List.Sorted.{sum_by-IsPermutation}
@@ -114,7 +114,7 @@ occurs_same : (xs ys : List (List ℕ)) (q : ℕ) → AreReordered xs ys → occ
 occurs_same xs ys q o = same_sums (count_by (λ x. x == q)) xs ys o.count (λ i. sum_by-IsPermutation (λ x. cond (x == q) 1 0) (get_or xs i []) (get_or ys i []) (o.same i))
 
 -- the cost of one more walk
-pub looks_more : {L : Type 0} (at : L → ℕ) (C0 C C' chains : List (List ℕ)) (t0 t t' t'' : Assignment L) (l : L) (q looks0 looks looks' : ℕ) → Propagates at C0 t0 C t → Propagates at C t C' t' → t'.taken ≡ t.taken → Watches C chains → AreApart chains → Some l ≡ slice_get (order (waiting t)) 0 → q ≡ opposite_place (at l) → t'' ≡ one_taken t' → t0.taken ≤ t.taken
+pub looks_more : {L : Type 0} (at : L → ℕ) (C0 C C' chains : List (List ℕ)) (t0 t t' t'' : Assignment L) (l : L) (q looks0 looks looks' : ℕ) → Propagates at C0 t0 C t → Propagates at C t C' t' → t'.taken ≡ t.taken → Watches C chains → AreApart chains → Some l ≡ slice_get (order (waiting t)) 0 → q ≡ negation (at l) → t'' ≡ one_taken t' → t0.taken ≤ t.taken
     → looks ≤ looks0 + false_occurrences C0 (places at (drop t0.taken (take t.taken t.entries))) → looks' ≤ looks + length (chain_at chains q)
     → looks' ≤ looks0 + false_occurrences C0 (places at (drop t0.taken (take t''.taken t''.entries)))
 looks_more {L} at C0 C C' chains t0 t t' t'' l q looks0 looks looks' go0 go et w apart first eq is le old new =
@@ -126,14 +126,14 @@ looks_more {L} at C0 C C' chains t0 t t' t'' l q looks0 looks looks' go0 go et w
     let e : Entry L = get_or t.entries n d in
     let grown : take (n + 1) t'.entries ≡ es ++ e ∷ [] = sym (take-take (n + 1) (length t.entries) t'.entries (omega (arith, f.0))) ∙ ap (take (n + 1)) go.kept ∙ take_more t.entries n d f.0 in
     let now : drop t0.taken (take t''.taken t''.entries) ≡ drop t0.taken es ++ e ∷ [] = ap (λ (u : Assignment L). drop t0.taken (take u.taken u.entries)) is ∙ ap (λ m. drop t0.taken (take (m + 1) t'.entries)) et ∙ ap (drop t0.taken) grown ∙ drop-append-le t0.taken es (e ∷ []) (omega (arith, size, le)) in
-    let sum : false_occurrences C0 (places at (drop t0.taken (take t''.taken t''.entries))) ≡ false_occurrences C0 (places at (drop t0.taken es)) + occurrences C0 (opposite_place (at e.literal)) = ap (λ (xs : List (Entry L)). false_occurrences C0 (places at xs)) now ∙ ap (false_occurrences C0) (map-append (λ (x : Entry L). at x.literal) (drop t0.taken es) (e ∷ [])) ∙ sum_by_push (λ x. occurrences C0 (opposite_place x)) (places at (drop t0.taken es)) (at e.literal) in
+    let sum : false_occurrences C0 (places at (drop t0.taken (take t''.taken t''.entries))) ≡ false_occurrences C0 (places at (drop t0.taken es)) + occurrences C0 (negation (at e.literal)) = ap (λ (xs : List (Entry L)). false_occurrences C0 (places at xs)) now ∙ ap (false_occurrences C0) (map-append (λ (x : Entry L). at x.literal) (drop t0.taken es) (e ∷ [])) ∙ sum_by_push (λ x. occurrences C0 (negation x)) (places at (drop t0.taken es)) (at e.literal) in
     let short = chain_short C chains q w apart in
-    let same : occurrences C q ≡ occurrences C0 (opposite_place (at e.literal)) = occurs_same C0 C q go0.order ∙ ap (occurrences C0) (eq ∙ ap (λ x. opposite_place (at x)) (sym f.1)) in
+    let same : occurrences C q ≡ occurrences C0 (negation (at e.literal)) = occurs_same C0 C q go0.order ∙ ap (occurrences C0) (eq ∙ ap (λ x. negation (at x)) (sym f.1)) in
     omega (arith, sum, short, same, old, new)
 
 -- the cost of the whole
 pub looks_all : {L : Type 0} (at : L → ℕ) (C0 : List (List ℕ)) (n m : ℕ) (es : List (Entry L)) → false_occurrences C0 (places at (drop n (take m es))) ≤ false_occurrences C0 (places at (drop n es))
-looks_all at C0 zero m es = (let a = sum_by-take-le (λ x. occurrences C0 (opposite_place x)) (places at es) m in let b = ap (false_occurrences C0) (take-map (λ (x : Entry _). at x.literal) m es) in omega (arith, a, b))
+looks_all at C0 zero m es = (let a = sum_by-take-le (λ x. occurrences C0 (negation x)) (places at es) m in let b = ap (false_occurrences C0) (take-map (λ (x : Entry _). at x.literal) m es) in omega (arith, a, b))
 looks_all at C0 (suc n) zero es = omega arith
 looks_all at C0 (suc n) (suc m) [] = omega arith
 looks_all at C0 (suc n) (suc m) (e ∷ es) = looks_all at C0 n m es

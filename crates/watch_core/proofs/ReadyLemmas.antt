@@ -1,12 +1,15 @@
 -- What callers of propagation need: how its conditions come about, and what stays at rest.
-use Rattle.std.proofs.Common.{◌≡◌, ℕ, suc, ◌+◌, ◌<◌, ◌≤◌, ◌==◌, ◌||◌, not, Bool, true, false, cond, List, [], ◌∷◌, ◌++◌, length, get_or, Option, None, refl, sym, ◌∙◌, ap, subst, arith, inl, inr, ◌⊎◌, eq-eqb}
+use Rattle.std.proofs.Common.{◌≡◌, ℕ, ◌+◌, ◌<◌, ◌≤◌, ◌==◌, ◌||◌, not, Bool, true, false, cond, List, [], ◌∷◌, ◌++◌, length, get_or, Option, None, refl, sym, ◌∙◌, ap, subst, arith, inl, inr, ◌⊎◌, eq-eqb}
 use Rattle.std.specs.List.{All, list_any}
 use Rattle.std.proofs.lemmas.List.{map-append, drop-append-le}
 use Rattle.std.proofs.lemmas.List.Elements.{All-weaker, All-push}
 use Rattle.std.proofs.lemmas.Bool.{cases_lt, false≢true}
-use Rattle.watch_core.specs.Places.{opposite_place, is_true, is_false, open_literals}
+use Rattle.literals_core.specs.Literal.{negation}
+use Rattle.literals_core.specs.Truth.{is_true, is_false, open_literals}
+use Rattle.literals_core.proofs.Truth.{open_more}
+use Rattle.literals_core.specs.Settled.{IsSettledByCount}
 use Rattle.watch_core.specs.Trail.{Entry, Assignment, IsTrail, places, cut, waiting, entered, assigned, decided, undone, empty_trail}
-use Rattle.watch_core.specs.Settled.{IsSettled, AllSettled, SettledBelow, CanPropagate, IsAtRest}
+use Rattle.watch_core.specs.Settled.{AllSettled, SettledBelow, CanPropagate, IsAtRest}
 use Rattle.watch_core.proofs.Assign.{more_true}
 use Rattle.watch_core.proofs.Cover.{true_or_false, any_from}
 use Rattle.watch_core.proofs.Levels.{cut_all, cut_none, cut_cut}
@@ -29,25 +32,25 @@ stays_true : (set : List ℕ) (p x : ℕ) → is_true set x ≡ true → is_true
 stays_true set p x h = more_true set p x ∙ ap (λ b. b || ((p == x) || false)) h
 
 -- a literal whose negation is another one is not made false
-stays_open : (set : List ℕ) (p l : ℕ) → is_true (p ∷ []) (opposite_place l) ≡ false → is_false (set ++ p ∷ []) l ≡ is_false set l
-stays_open set p l h = more_true set p (opposite_place l) ∙ ap (λ b. is_false set l || b) h ∙ or_false (is_false set l) where
+stays_open : (set : List ℕ) (p l : ℕ) → is_true (p ∷ []) (negation l) ≡ false → is_false (set ++ p ∷ []) l ≡ is_false set l
+stays_open set p l h = more_true set p (negation l) ∙ ap (λ b. is_false set l || b) h ∙ or_false (is_false set l) where
   or_false : (b : Bool) → (b || false) ≡ b
   or_false true = refl
   or_false false = refl
 
-open_same : (set : List ℕ) (p : ℕ) (xs : List ℕ) → list_any (λ l. is_true (p ∷ []) (opposite_place l)) xs ≡ false → open_literals (set ++ p ∷ []) xs ≡ open_literals set xs
+open_same : (set : List ℕ) (p : ℕ) (xs : List ℕ) → list_any (λ l. is_true (p ∷ []) (negation l)) xs ≡ false → open_literals (set ++ p ∷ []) xs ≡ open_literals set xs
 open_same set p [] h = refl
-open_same set p (x ∷ xs) h = elim (true_or_false (is_true (p ∷ []) (opposite_place x))) [
-  | inl yes' ↦ absurd (false≢true (sym h ∙ ap (λ b. b || list_any (λ l. is_true (p ∷ []) (opposite_place l)) xs) yes'))
-  | inr no' ↦ (let rest = open_same set p xs (sym (ap (λ b. b || list_any (λ l. is_true (p ∷ []) (opposite_place l)) xs) no') ∙ h) in
+open_same set p (x ∷ xs) h = elim (true_or_false (is_true (p ∷ []) (negation x))) [
+  | inl yes' ↦ absurd (false≢true (sym h ∙ ap (λ b. b || list_any (λ l. is_true (p ∷ []) (negation l)) xs) yes'))
+  | inr no' ↦ (let rest = open_same set p xs (sym (ap (λ b. b || list_any (λ l. is_true (p ∷ []) (negation l)) xs) no') ∙ h) in
       ap (λ b. cond (not b) (x ∷ open_literals (set ++ p ∷ []) xs) (open_literals (set ++ p ∷ []) xs)) (stays_open set p x no')
       ∙ ap (λ ys. cond (not (is_false set x)) (x ∷ ys) ys) rest)
 ]
 
 -- one more true literal leaves a settled clause settled, or the clause has its negation
-pub settled_step : (set : List ℕ) (p : ℕ) (clause : List ℕ) → IsSettled set clause → IsSettled (set ++ p ∷ []) clause ⊎ (list_any (λ l. is_true (p ∷ []) (opposite_place l)) clause ≡ true)
+pub settled_step : (set : List ℕ) (p : ℕ) (clause : List ℕ) → IsSettledByCount set clause → IsSettledByCount (set ++ p ∷ []) clause ⊎ (list_any (λ l. is_true (p ∷ []) (negation l)) clause ≡ true)
 settled_step set p clause (inl some) = inl (inl (any_weaker (is_true set) (is_true (set ++ p ∷ [])) (stays_true set p) clause some))
-settled_step set p clause (inr two) = elim (true_or_false (list_any (λ l. is_true (p ∷ []) (opposite_place l)) clause)) [
+settled_step set p clause (inr two) = elim (true_or_false (list_any (λ l. is_true (p ∷ []) (negation l)) clause)) [
   | inl has ↦ inr has
   | inr without ↦ inl (inr (let same = ap length (open_same set p clause without) in omega (arith, same, two)))
 ]
@@ -95,8 +98,8 @@ can_entered {L} at t clauses l level reason kept rest step =
           subst P (sym waits) (All-push (λ (x : Entry L). x.level ≡ level) [] e none' refl));
       below = below_entered at t clauses l level reason kept rest step;
       whole = λ i d lt long. (let clause : List ℕ = get_or clauses i d in
-          let P : List ℕ → Type 0 = λ set. IsSettled set clause ⊎ (list_any (λ x. is_true (places at (waiting (entered t l level reason))) (opposite_place x)) clause ≡ true) in
-          let Q : List (Entry L) → Type 0 = λ es. IsSettled (places at t.entries ++ at l ∷ []) clause ⊎ (list_any (λ x. is_true (places at es) (opposite_place x)) clause ≡ true) in
+          let P : List ℕ → Type 0 = λ set. IsSettledByCount set clause ⊎ (list_any (λ x. is_true (places at (waiting (entered t l level reason))) (negation x)) clause ≡ true) in
+          let Q : List (Entry L) → Type 0 = λ es. IsSettledByCount (places at t.entries ++ at l ∷ []) clause ⊎ (list_any (λ x. is_true (places at es) (negation x)) clause ≡ true) in
           subst P (sym grown) (subst Q (sym waits) (settled_step (places at t.entries) (at l) clause (rest.whole i d lt long))));
     }
 
@@ -113,13 +116,10 @@ rests_undone {L} at t clauses level kept below current lt = record {
   whole = below level lt;
 }
 
-keeps_open : (set : List ℕ) (x : ℕ) (xs : List ℕ) → is_false set x ≡ false → length (open_literals set (x ∷ xs)) ≡ suc (length (open_literals set xs))
-keeps_open set x xs h = ap (λ b. length (cond (not b) (x ∷ open_literals set xs) (open_literals set xs))) h
-
 two_open : (set clause : List ℕ) → 2 ≤ length clause → is_false set (get_or clause 0 0) ≡ false → is_false set (get_or clause 1 0) ≡ false → 2 ≤ length (open_literals set clause)
 two_open set [] long a b = absurd (omega (arith, long))
 two_open set (x ∷ []) long a b = absurd (omega (arith, long))
-two_open set (x ∷ y ∷ xs) long a b = (let m = keeps_open set x (y ∷ xs) a in let n = keeps_open set y xs b in omega (arith, m, n))
+two_open set (x ∷ y ∷ xs) long a b = (let m = ap length (open_more set x (y ∷ xs) a) in let n = ap length (open_more set y xs b) in omega (arith, m, n))
 
 -- after a new clause, whose first literal isn't false and whose second became false on the current level or not at all, that first literal is assigned
 pub can_assigned : {L : Type 0} (at : L → ℕ) (t : Assignment L) (clauses : List (List ℕ)) (clause : List ℕ) (l : L) (reason : Option ℕ) → IsTrail at t → IsAtRest at t clauses → 0 < length clause → get_or clause 0 0 ≡ at l → is_false (places at t.entries) (at l) ≡ false
@@ -131,10 +131,10 @@ can_assigned {L} at t clauses clause l reason kept rest some first free second =
     let grown : places at (t.entries ++ e ∷ []) ≡ places at t.entries ++ at l ∷ [] = map-append (λ (x : Entry L). at x.literal) t.entries (e ∷ []) in
     record {
       current = old.current;
-      below = λ q lq. All-push (λ c. 2 ≤ length c → IsSettled (places at (cut (t.entries ++ e ∷ []) q)) c) clauses clause (old.below q lq) (λ long.
-          (let P : List (Entry L) → Type 0 = λ es. IsSettled (places at es) clause in
-          subst P (sym (push_above t.entries e q lq)) (inr (two_open (places at (cut t.entries q)) clause long (ap (is_false (places at (cut t.entries q))) first ∙ cut_false at t.entries q (opposite_place (at l)) free) (second long q lq)))));
-      whole = All-push (λ c. 2 ≤ length c → IsSettled (places at (t.entries ++ e ∷ [])) c ⊎ (list_any (λ x. is_true (places at (waiting (assigned t l reason))) (opposite_place x)) c ≡ true)) clauses clause old.whole (λ long.
+      below = λ q lq. All-push (λ c. 2 ≤ length c → IsSettledByCount (places at (cut (t.entries ++ e ∷ []) q)) c) clauses clause (old.below q lq) (λ long.
+          (let P : List (Entry L) → Type 0 = λ es. IsSettledByCount (places at es) clause in
+          subst P (sym (push_above t.entries e q lq)) (inr (two_open (places at (cut t.entries q)) clause long (ap (is_false (places at (cut t.entries q))) first ∙ cut_false at t.entries q (negation (at l)) free) (second long q lq)))));
+      whole = All-push (λ c. 2 ≤ length c → IsSettledByCount (places at (t.entries ++ e ∷ [])) c ⊎ (list_any (λ x. is_true (places at (waiting (assigned t l reason))) (negation x)) c ≡ true)) clauses clause old.whole (λ long.
           (let now : is_true (places at t.entries ++ at l ∷ []) (at l) ≡ true = more_true (places at t.entries) (at l) (at l) ∙ ap (λ b. is_true (places at t.entries) (at l) || (b || false)) (eq-eqb (at l) (at l) refl) ∙ or_one (is_true (places at t.entries) (at l)) in
           inl (inl (any_from (places at (t.entries ++ e ∷ [])) clause (at l, (0, some, at_start clause (at l) some first), ap (λ set. is_true set (at l)) grown ∙ now)))));
     }

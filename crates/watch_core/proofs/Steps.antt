@@ -3,7 +3,8 @@ use Rattle.std.proofs.Common.{◌≡◌, ◌≢◌, ℕ, zero, suc, ◌+◌, ◌
 use Rattle.std.specs.List.{Contains, list_all, slice_get}
 use Rattle.std.proofs.lemmas.List.{length-map, get_or-map, get_or_past, map-set}
 use Rattle.std.proofs.lemmas.Bool.{cases_lt}
-use Rattle.watch_core.specs.Places.{is_true, is_false, placed}
+use Rattle.literals_core.specs.Truth.{is_true, is_false}
+use Rattle.watch_core.specs.Places.{placed}
 use Rattle.watch_core.specs.Trail.{Entry, Assignment, places, waiting, value_of}
 use Rattle.watch_core.specs.Settled.{IsClauseFalse}
 use Rattle.watch_core.specs.Cover.{clause_of, HasTrue}

@@ -8,12 +8,14 @@ use Rattle.std.proofs.lemmas.Bool.{cases_eq, false≢true}
 use Rattle.std.proofs.lemmas.Bool.Decides.{nat_tests}
 use Rattle.arena_core.specs.declared.arena.TheConstants.{MOST_CLAUSES}
 use Rattle.arena_core.specs.declared.lit.TheConstants.{MOST_VARIABLES}
-use Rattle.watch_core.specs.Places.{opposite_place, is_true}
+use Rattle.literals_core.specs.Literal.{negation}
+use Rattle.literals_core.specs.Truth.{is_true}
+use Rattle.literals_core.proofs.Negation.{negation_twice, variable_of-negation}
 use Rattle.watch_core.specs.Trail.{Entry, Assignment, IsTrail, IsLeveled, places, value_of, undone, cut, order, waiting, empty_trail}
 use Rattle.watch_core.specs.Kept.{blank, reason_of, entry_of, entries_of, IsKept, Keeps}
 use Rattle.watch_core.specs.declared.trail.Mark.{Mark}
 use Rattle.watch_core.specs.declared.trail.TheConstants.{NO_REASON}
-use Rattle.watch_core.proofs.Assign.{more_true, or_none, value_none, twice, not_eqb, order_short, course_assigned}
+use Rattle.watch_core.proofs.Assign.{more_true, or_none, value_none, not_eqb, order_short, course_assigned}
 use Rattle.watch_core.proofs.Levels.{leveled_more, leveled_cut, cut_is, cut_all}
 
 -- the level is at most the number of variables
@@ -49,7 +51,7 @@ trail_is {L} at values marks order capacity taken level k = record {
 }
 
 -- all that `enter` keeps
-pub keeps_entered : {L : Type 0} (at : L → ℕ) (values : List ℕ) (marks : List Mark) (order order' : List L) (capacity capacity' taken place q n level0 level level' : ℕ) (l : L) (m : Mark) (entries : List (Entry L)) → Keeps at values marks order capacity taken level → entries_of at marks order ≡ entries → length marks ≡ n → place ≡ at l → at l < 2 * n → q ≡ opposite_place (at l)
+pub keeps_entered : {L : Type 0} (at : L → ℕ) (values : List ℕ) (marks : List Mark) (order order' : List L) (capacity capacity' taken place q n level0 level level' : ℕ) (l : L) (m : Mark) (entries : List (Entry L)) → Keeps at values marks order capacity taken level → entries_of at marks order ≡ entries → length marks ≡ n → place ≡ at l → at l < 2 * n → q ≡ negation (at l)
     → value_of (places at entries) (at l) ≡ None → order' ≡ order ++ l ∷ [] → capacity ≤ capacity' → level ≡ level0 → (level' ≡ level0) ⊎ (level' ≡ level0 + 1) → m.level ≡ level' → (m.reason ≡ NO_REASON) ⊎ (m.reason < MOST_CLAUSES)
     → Keeps at (set (set values place 1) q 2) (set marks (place / 2) m) order' capacity' taken level'
 keeps_entered {L} at values marks order order' capacity capacity' taken place q n level0 level level' l m entries k e size same lt eq free grown wide lv step is valid =
@@ -64,15 +66,12 @@ keeps_entered {L} at values marks order order' capacity capacity' taken place q 
       reasons = All-set (λ (x : Mark). (x.reason ≡ NO_REASON) ⊎ (x.reason < MOST_CLAUSES)) marks (place / 2) m valid k.reasons;
     }
 
-same_half : (p : ℕ) → opposite_place p / 2 ≡ p / 2
-same_half p = grind (arith, nat_tests)
-
 absent : {L : Type 0} (at : L → ℕ) (xs : List L) (p p' : ℕ) → p' / 2 ≡ p / 2 → ((i : ℕ) (d : L) → i < length xs → at (get_or xs i d) / 2 ≢ p / 2) → is_true (map at xs) p' ≡ false
 absent at [] p p' e h = refl
 absent at (x ∷ xs) p p' e h =
     ap (λ b. b || is_true (map at xs) p') (not_eqb (at x) p' (λ is. h 0 x (omega arith) (ap (λ n. n / 2) is ∙ e))) ∙ absent at xs p p' e (λ i d lt. h (suc i) d (omega (arith, lt)))
 
-pub kept_left : {L : Type 0} (at : L → ℕ) (values : List ℕ) (marks : List Mark) (xs : List L) (capacity q : ℕ) (l : L) → IsKept at values marks (xs ++ l ∷ []) capacity 0 → q ≡ opposite_place (at l)
+pub kept_left : {L : Type 0} (at : L → ℕ) (values : List ℕ) (marks : List Mark) (xs : List L) (capacity q : ℕ) (l : L) → IsKept at values marks (xs ++ l ∷ []) capacity 0 → q ≡ negation (at l)
     → IsKept at (set (set values (at l) 0) q 0) marks xs capacity 0
 kept_left {L} at values marks xs capacity q l k eq =
     let p : ℕ = at l in
@@ -84,7 +83,7 @@ kept_left {L} at values marks xs capacity q l k eq =
     let b : get_or (xs ++ l ∷ []) (length xs) d ≡ l = get_or_at xs l [] d (length xs) refl in
     k.apart i (length xs) d lt (omega (arith, longer)) (ap (λ x. at x / 2) a ∙ e ∙ sym (ap (λ x. at x / 2) b))) in
     let no_p : is_true (map at xs) p ≡ false = absent at xs p p refl away in
-    let no_q : is_true (map at xs) q ≡ false = absent at xs p q (ap (λ n. n / 2) eq ∙ same_half p) away in
+    let no_q : is_true (map at xs) q ≡ false = absent at xs p q (ap (λ n. n / 2) eq ∙ variable_of-negation p) away in
     let past : (x : ℕ) → p ≢ x → is_true (map at (xs ++ l ∷ [])) x ≡ is_true (map at xs) x = λ x ne. ap (λ s. is_true s x) grown ∙ more_true (map at xs) p x ∙ ap (λ b. is_true (map at xs) x || (b || false)) (not_eqb p x ne) ∙ or_none (is_true (map at xs) x) in
     let at_q : (x : ℕ) → x < length values → x ≡ q → get_or (set (set values p 0) q 0) x 0 ≡ 0 = λ x lt is. ap (λ j. get_or (set (set values p 0) q 0) j 0) is ∙ get_or-set_same (set values p 0) q 0 0 (simp length-set (omega (arith, is, lt))) in
     let at_p : (x : ℕ) → x < length values → x ≢ q → x ≡ p → get_or (set (set values p 0) q 0) x 0 ≡ 0 = λ x lt ne is. get_or-set_other (set values p 0) q x 0 0 ne ∙ ap (λ j. get_or (set values p 0) j 0) is ∙ get_or-set_same values p 0 0 (omega (arith, is, lt)) in
@@ -104,17 +103,17 @@ kept_left {L} at values marks xs capacity q l k eq =
           ]);
       falses = λ x h. (let hx : x < length values = omega (arith, h, size) in
           elim (cases_eq x q) [
-            | inl isq ↦ ap (λ v. v == 2) (at_q x hx isq) ∙ sym (ap (is_true (map at xs)) (ap opposite_place (isq ∙ eq) ∙ twice p) ∙ no_p)
+            | inl isq ↦ ap (λ v. v == 2) (at_q x hx isq) ∙ sym (ap (is_true (map at xs)) (ap negation (isq ∙ eq) ∙ negation_twice p) ∙ no_p)
             | inr nq ↦ (elim (cases_eq x p) [
-              | inl isp ↦ ap (λ v. v == 2) (at_p x hx nq isp) ∙ sym (ap (is_true (map at xs)) (ap opposite_place isp ∙ sym eq) ∙ no_q)
-              | inr np ↦ ap (λ v. v == 2) (at_x x nq np) ∙ k.falses x hx ∙ past (opposite_place x) (λ e. nq (sym (twice x) ∙ sym (ap opposite_place e) ∙ sym eq))
+              | inl isp ↦ ap (λ v. v == 2) (at_p x hx nq isp) ∙ sym (ap (is_true (map at xs)) (ap negation isp ∙ sym eq) ∙ no_q)
+              | inr np ↦ ap (λ v. v == 2) (at_x x nq np) ∙ k.falses x hx ∙ past (negation x) (λ e. nq (sym (negation_twice x) ∙ sym (ap negation e) ∙ sym eq))
             ])
           ]);
       room = k.room;
       within = omega arith;
     }
 
-pub kept_shorter : {L : Type 0} (at : L → ℕ) (values : List ℕ) (marks : List Mark) (order : List L) (capacity n m q : ℕ) (l : L) → IsKept at values marks (take n order) capacity 0 → n ≡ m + 1 → n ≤ length order → l ≡ get_or order m l → q ≡ opposite_place (at l)
+pub kept_shorter : {L : Type 0} (at : L → ℕ) (values : List ℕ) (marks : List Mark) (order : List L) (capacity n m q : ℕ) (l : L) → IsKept at values marks (take n order) capacity 0 → n ≡ m + 1 → n ≤ length order → l ≡ get_or order m l → q ≡ negation (at l)
     → IsKept at (set (set values (at l) 0) q 0) marks (take m order) capacity 0
 kept_shorter {L} at values marks order capacity n m q l k e le read eq =
     let P : List L → Type 0 = λ xs. IsKept at values marks xs capacity 0 in
@@ -173,7 +172,7 @@ waiting_none {L} at marks xs taken t e same le =
     ap (λ ys. slice_get ys 0) (sym (rest ∙ drop_all taken xs le))
 
 -- one turn of the loop that clears values
-pub kept_turn : {L : Type 0} (at : L → ℕ) (values : List ℕ) (marks : List Mark) (order : List L) (capacity n m p q : ℕ) (l : L) → IsKept at values marks (take n order) capacity 0 → m ≡ n - 1 → 0 < n → n ≤ length order → l ≡ get_or order m l → p ≡ at l → q ≡ opposite_place (at l)
+pub kept_turn : {L : Type 0} (at : L → ℕ) (values : List ℕ) (marks : List Mark) (order : List L) (capacity n m p q : ℕ) (l : L) → IsKept at values marks (take n order) capacity 0 → m ≡ n - 1 → 0 < n → n ≤ length order → l ≡ get_or order m l → p ≡ at l → q ≡ negation (at l)
     → IsKept at (set (set values p 0) q 0) marks (take m order) capacity 0
 kept_turn {L} at values marks order capacity n m p q l k e some le read same eq =
     let P : ℕ → Type 0 = λ x. IsKept at (set (set values x 0) q 0) marks (take m order) capacity 0 in
@@ -252,7 +251,7 @@ unset_entry {L} at es v i d none' lt is =
     elim (cases_eq (p % 2) 0) [
       | inl even ↦ (let e : p ≡ 2 * v = omega (arith, even, is) in false≢true (sym both.0 ∙ ap (is_true (places at es)) (sym e) ∙ set))
       | inr odd ↦ (let e : p ≡ 2 * v + 1 = omega (arith, odd, is) in
-          let o : opposite_place (2 * v) ≡ 2 * v + 1 = grind (arith, nat_tests) in
+          let o : negation (2 * v) ≡ 2 * v + 1 = grind (arith, nat_tests) in
           false≢true (sym both.1 ∙ ap (is_true (places at es)) (o ∙ sym e) ∙ set))
     ]
 

@@ -7,7 +7,10 @@ use Rattle.std.proofs.lemmas.List.Sorted.{Contains-permutation, length_permutati
 use Rattle.std.proofs.lemmas.Bool.{cases_eq, false≢true}
 use Rattle.std.proofs.lemmas.Bool.Decides.{eqb_tells}
 use Rattle.arena_core.specs.Chains.{chain_at, put_first, taken_out, others, AreApart, IsSeated}
-use Rattle.watch_core.specs.Places.{opposite_place, is_true, is_false, placed}
+use Rattle.literals_core.specs.Literal.{negation}
+use Rattle.literals_core.specs.Truth.{is_true, is_false}
+use Rattle.literals_core.proofs.Negation.{negation_twice}
+use Rattle.watch_core.specs.Places.{placed}
 use Rattle.watch_core.specs.Trail.{Entry, Assignment, IsTrail, places, waiting, assigned, order, one_taken}
 use Rattle.watch_core.specs.Settled.{IsClauseFalse, IsFalseClause}
 use Rattle.watch_core.specs.Cover.{clause_of, watched_at, beside, Watches, HasTrue, IsPropagating}
@@ -15,7 +18,6 @@ use Rattle.watch_core.specs.Propagates.{AreReordered, Propagates}
 use Rattle.watch_core.specs.Walk.{IsSeat, AllWalked, Visited}
 use Rattle.watch_core.specs.declared.walk.Visit.{Visit}
 use Rattle.watch_core.specs.declared.walk.Visit.TheVariants.{Stays, Moved, False}
-use Rattle.watch_core.proofs.Assign.{twice}
 use Rattle.watch_core.proofs.Cover.{now_true}
 use Rattle.watch_core.proofs.Watches.{chain_taken, no_other, drained}
 use Rattle.watch_core.proofs.Going.{covers_moved, going_assigned, going_taken, goes_assigned, goes_order, goes_trans, goes_taken, only_swapped}
@@ -59,7 +61,7 @@ visit_moved {L} at cs cs' chains chains' t s id side j clause to h seat waits ei
     let m = ap length ec in
     let F : ℕ → ℕ → List (List ℕ) = λ i k. set C i (swap (get_or C i []) k j) in
     let is : placed at cs' ≡ F (s / 2) (s % 2) = ap (placed at) ea ∙ placed_swap at cs id side j (omega (arith, m, es, far, lj)) (omega (arith, m, lj)) ∙ ap (λ i. F i side) ei ∙ ap (λ k. F (s / 2) k) es in
-    let isfalse : is_false (places at t.entries) (watched_at C s) ≡ true = waits_true at t (opposite_place (watched_at C s)) waits in
+    let isfalse : is_false (places at t.entries) (watched_at C s) ≡ true = waits_true at t (negation (watched_at C s)) waits in
     let free : is_false (places at t.entries) (at to) ≡ false = ap (λ l. is_false (places at t.entries) (at l)) read ∙ open' to in
     let P : List (List ℕ) → Type 0 = λ ds. IsPropagating at ds chains' t in
     let Q : List (List ℕ) → Type 0 = λ ds. IsPropagating at (F (s / 2) (s % 2)) ds t in
@@ -79,7 +81,7 @@ visit_rest : {L : Type 0} (at : L → ℕ) (cs : List (List L)) (chains : List (
     → (i : ℕ) → i < length (clause_of (placed at cs) s) → i ≢ 1 - side → is_false (places at t.entries) (get_or (clause_of (placed at cs) s) i 0) ≡ true
 visit_rest at cs chains t s id side clause other seat waits ei es ec rest =
     let C : List (List ℕ) = placed at cs in
-    let isfalse : is_false (places at t.entries) (watched_at C s) ≡ true = waits_true at t (opposite_place (watched_at C s)) waits in
+    let isfalse : is_false (places at t.entries) (watched_at C s) ≡ true = waits_true at t (negation (watched_at C s)) waits in
     others_false at (places at t.entries) (clause_of C s) clause s side other (row_is at cs (s / 2) id clause ei ec) es (ap (λ k. is_false (places at t.entries) (get_or (clause_of C s) k 0)) es ∙ isfalse) rest
 
 pub visit_false : {L : Type 0} (at : L → ℕ) (cs : List (List L)) (chains : List (List ℕ)) (t : Assignment L) (s id side : ℕ) (clause : List L) (other : L) → IsSeat (placed at cs) s → is_false (places at (waiting t)) (watched_at (placed at cs) s) ≡ true
@@ -221,13 +223,13 @@ pub walk_most : (set : List ℕ) (clauses : List (List ℕ)) (chain : List ℕ) 
 walk_most set clauses chain current most looks s (done, rest, w) e = (let f = ap length (walk_seat set clauses chain current done rest most looks s w e).1 in omega (arith, f, w.cost))
 
 -- waiting literals
-pub first_waits : {L : Type 0} (at : L → ℕ) (t : Assignment L) (l : L) (q : ℕ) → Some l ≡ slice_get (order (waiting t)) 0 → opposite_place q ≡ at l → is_false (places at (waiting t)) q ≡ true
+pub first_waits : {L : Type 0} (at : L → ℕ) (t : Assignment L) (l : L) (q : ℕ) → Some l ≡ slice_get (order (waiting t)) 0 → negation q ≡ at l → is_false (places at (waiting t)) q ≡ true
 first_waits {L} at t l q h e = go (waiting t) h where
-  go : (es : List (Entry L)) → Some l ≡ slice_get (order es) 0 → is_true (places at es) (opposite_place q) ≡ true
+  go : (es : List (Entry L)) → Some l ≡ slice_get (order es) 0 → is_true (places at es) (negation q) ≡ true
   go [] h = absurd (no h) where
     no : Some l ≡ slice_get (order {L = L} []) 0 → ⊥
     no h = cc
-  go (x ∷ es) h = ap (λ b. b || is_true (places at es) (opposite_place q)) (eq-eqb (at x.literal) (opposite_place q) (ap at (same x.literal (order es) h) ∙ sym e)) where
+  go (x ∷ es) h = ap (λ b. b || is_true (places at es) (negation q)) (eq-eqb (at x.literal) (negation q) (ap at (same x.literal (order es) h) ∙ sym e)) where
     same : (y : L) (ys : List L) → Some l ≡ slice_get (y ∷ ys) 0 → y ≡ l
     same y ys h = cc
 
@@ -253,14 +255,14 @@ none_waits {L} t h = go (waiting t) h where
     no : (y : L) (ys : List L) → None ≡ slice_get (y ∷ ys) 0 → ⊥
     no y ys h = cc
 
-pub opposite_low : (p n : ℕ) → p < 2 * n → opposite_place p < 2 * n
-opposite_low p n h = elim (eqb_tells (p % 2) 0) [
-  | inl even ↦ (let up : opposite_place p ≡ p + 1 = ap (λ b. cond b (p + 1) (p - 1)) even.0 in omega (arith, up, even.1, h))
-  | inr odd ↦ (let down : opposite_place p ≡ p - 1 = ap (λ b. cond b (p + 1) (p - 1)) odd.0 in omega (arith, down, h))
+pub negation_low : (p n : ℕ) → p < 2 * n → negation p < 2 * n
+negation_low p n h = elim (eqb_tells (p % 2) 0) [
+  | inl even ↦ (let up : negation p ≡ p + 1 = ap (λ b. cond b (p + 1) (p - 1)) even.0 in omega (arith, up, even.1, h))
+  | inr odd ↦ (let down : negation p ≡ p - 1 = ap (λ b. cond b (p + 1) (p - 1)) odd.0 in omega (arith, down, h))
 ]
 
 -- a literal has been taken in, after its walk
-pub walked_taken : {L : Type 0} (at : L → ℕ) (C0 C C' chains' : List (List ℕ)) (t0 t t' t'' : Assignment L) (l : L) (q : ℕ) → Propagates at C0 t0 C t → IsPropagating at C' chains' t' → Propagates at C t C' t' → t'.taken ≡ t.taken → Some l ≡ slice_get (order (waiting t)) 0 → opposite_place q ≡ at l → AllWalked (places at t'.entries) C' q → t'' ≡ one_taken t'
+pub walked_taken : {L : Type 0} (at : L → ℕ) (C0 C C' chains' : List (List ℕ)) (t0 t t' t'' : Assignment L) (l : L) (q : ℕ) → Propagates at C0 t0 C t → IsPropagating at C' chains' t' → Propagates at C t C' t' → t'.taken ≡ t.taken → Some l ≡ slice_get (order (waiting t)) 0 → negation q ≡ at l → AllWalked (places at t'.entries) C' q → t'' ≡ one_taken t'
     → IsPropagating at C' chains' t'' × Propagates at C0 t0 C' t''
 walked_taken {L} at C0 C C' chains' t0 t t' t'' l q go0 h go et first eq walked is =
     let d : Entry L = record { literal = l; level = 0; reason = None } in
@@ -271,7 +273,7 @@ walked_taken {L} at C0 C C' chains' t0 t t' t'' l q go0 h go et first eq walked 
     let P : Assignment L → Type 0 = λ u. IsPropagating at C' chains' u × Propagates at C0 t0 C' u in
     subst P (sym is) (
       going_taken at C' chains' t' e (drop (t'.taken + 1) t'.entries) h (drop_more t'.entries t'.taken d lt) lt
-          (λ s known long sees. walked s known long (sym (twice (watched_at C' s)) ∙ ap opposite_place (sees ∙ ap at same ∙ sym eq) ∙ twice q)),
+          (λ s known long sees. walked s known long (sym (negation_twice (watched_at C' s)) ∙ ap negation (sees ∙ ap at same ∙ sym eq) ∙ negation_twice q)),
       goes_trans at C0 C' C' t0 t' (one_taken t') (goes_trans at C0 C C' t0 t t' go0 go) (goes_taken at C' t'),
     )
 

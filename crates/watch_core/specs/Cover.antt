@@ -2,7 +2,7 @@
 use Rattle.std.specs.Prelude.{ℕ, ◌≡◌, ◌≢◌, ◌-◌, ◌*◌, ◌/◌, ◌%◌, ◌<◌, ◌≤◌, ◌==◌, Bool, true, false, List, [], length, All, Contains, slice_index_or, ◌⊎◌}
 use Rattle.std.specs.List.{IsDistinct}
 use Rattle.arena_core.specs.Chains.{chain_at}
-use Rattle.watch_core.specs.Places.{is_true, is_false}
+use Rattle.literals_core.specs.Truth.{is_true, is_false}
 use Rattle.watch_core.specs.Trail.{Assignment, Entry, IsTrail, places, cut, waiting}
 
 -- the clause of a seat, the literal at its side, and the one at the other side

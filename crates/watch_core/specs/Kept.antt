@@ -1,8 +1,9 @@
 -- What a trail keeps in its tables.
-use Rattle.std.specs.Prelude.{ℕ, ◌≡◌, ◌≢◌, ◌*◌, ◌/◌, ◌==◌, ◌⊎◌, ◌<◌, ◌≤◌, List, length, map, All, Option, Some, None, slice_index, slice_index_or, if◌then◌else◌}
+use Rattle.std.specs.Prelude.{ℕ, ◌≡◌, ◌≢◌, ◌*◌, ◌==◌, ◌⊎◌, ◌<◌, ◌≤◌, List, length, map, All, Option, Some, None, slice_index, slice_index_or, if◌then◌else◌}
 use Rattle.arena_core.specs.declared.arena.TheConstants.{MOST_CLAUSES}
 use Rattle.arena_core.specs.declared.lit.TheConstants.{MOST_VARIABLES}
-use Rattle.watch_core.specs.Places.{is_true, is_false}
+use Rattle.literals_core.specs.Literal.{variable_of}
+use Rattle.literals_core.specs.Truth.{is_true, is_false}
 use Rattle.watch_core.specs.Trail.{Entry, IsLeveled}
 use Rattle.watch_core.specs.declared.trail.Mark.{Mark}
 use Rattle.watch_core.specs.declared.trail.TheConstants.{NO_REASON}
@@ -17,7 +18,7 @@ reason_of n = if n == NO_REASON then None else Some n
 
 -- a true literal with what the mark of its variable says
 abbrev pub entry_of : {L : Type 0} → (L → ℕ) → List Mark → L → Entry L
-entry_of at marks l = record { literal = l; level = (slice_index_or marks (at l / 2) blank).level; reason = reason_of (slice_index_or marks (at l / 2) blank).reason }
+entry_of at marks l = record { literal = l; level = (slice_index_or marks (variable_of (at l)) blank).level; reason = reason_of (slice_index_or marks (variable_of (at l)) blank).reason }
 
 -- the entries of a trail
 abbrev pub entries_of : {L : Type 0} → (L → ℕ) → List Mark → List L → List (Entry L)
@@ -27,7 +28,7 @@ entries_of at marks order = map (entry_of at marks) order
 pub record IsKept {L : Type 0} (at : L → ℕ) (values : List ℕ) (marks : List Mark) (order : List L) (capacity taken : ℕ) : Type 0 where
   pub sizes : length values ≡ 2 * length marks
   pub inside : All (λ l. at l < length values) order
-  pub apart : (i j : ℕ) (d : L) → i < j → j < length order → at (slice_index_or order i d) / 2 ≢ at (slice_index_or order j d) / 2
+  pub apart : (i j : ℕ) (d : L) → i < j → j < length order → variable_of (at (slice_index_or order i d)) ≢ variable_of (at (slice_index_or order j d))
   pub trues : (x : ℕ) → x < length values → (slice_index values x == 1) ≡ is_true (map at order) x
   pub falses : (x : ℕ) → x < length values → (slice_index values x == 2) ≡ is_false (map at order) x
   pub room : length marks ≤ capacity

@@ -1,6 +1,6 @@
 -- What a call of `propagate` changes.
 use Rattle.std.specs.Prelude.{ℕ, ◌≡◌, ◌<◌, ◌≤◌, true, List, [], length, take, All, Some, Contains, slice_index_or, ◌⊎◌, IsPermutation}
-use Rattle.watch_core.specs.Places.{is_false}
+use Rattle.literals_core.specs.Truth.{is_false}
 use Rattle.watch_core.specs.Trail.{Assignment, Entry, places}
 
 -- clauses change only the order of their literals

@@ -1,16 +1,14 @@
 -- When propagation has come to rest.
 use Rattle.std.specs.Prelude.{ℕ, ◌≡◌, ◌<◌, ◌≤◌, true, List, [], length, All, Option, Some, None, slice_index_or, ◌⊎◌}
 use Rattle.std.specs.List.{list_any, list_all}
-use Rattle.watch_core.specs.Places.{is_true, is_false, open_literals, opposite_place}
+use Rattle.literals_core.specs.Literal.{negation}
+use Rattle.literals_core.specs.Truth.{is_true, is_false}
+use Rattle.literals_core.specs.Settled.{IsSettledByCount}
 use Rattle.watch_core.specs.Trail.{Assignment, Entry, places, cut, waiting}
-
--- some literal is true, or at least two are not false
-abbrev pub IsSettled : List ℕ → List ℕ → Type 0
-IsSettled set clause = (list_any (is_true set) clause ≡ true) ⊎ (2 ≤ length (open_literals set clause))
 
 -- each clause of two or more literals is settled
 abbrev pub AllSettled : List ℕ → List (List ℕ) → Type 0
-AllSettled set clauses = All (λ clause. 2 ≤ length clause → IsSettled set clause) clauses
+AllSettled set clauses = All (λ clause. 2 ≤ length clause → IsSettledByCount set clause) clauses
 
 -- the same under the trail cut at each level below one
 abbrev pub SettledBelow : {L : Type 0} → (L → ℕ) → Assignment L → List (List ℕ) → Type 0
@@ -19,7 +17,7 @@ SettledBelow at t clauses = (level : ℕ) → level < t.level → AllSettled (pl
 -- on the whole trail each clause is settled, or has the negation of a waiting literal
 abbrev pub SettledOrWaits : {L : Type 0} → (L → ℕ) → Assignment L → List (List ℕ) → Type 0
 SettledOrWaits at t clauses =
-    All (λ clause. 2 ≤ length clause → IsSettled (places at t.entries) clause ⊎ (list_any (λ l. is_true (places at (waiting t)) (opposite_place l)) clause ≡ true)) clauses
+    All (λ clause. 2 ≤ length clause → IsSettledByCount (places at t.entries) clause ⊎ (list_any (λ l. is_true (places at (waiting t)) (negation l)) clause ≡ true)) clauses
 
 -- all literals of a clause are false
 abbrev pub IsClauseFalse : List ℕ → List ℕ → Type 0

@@ -1,7 +1,8 @@
 -- What is assigned: the true literals in order, with a level and maybe a reason each.
-use Rattle.std.specs.Prelude.{ℕ, ◌+◌, ◌*◌, ◌/◌, ◌≢◌, ◌<◌, ◌≤◌, nat_le, Bool, true, false, List, [], ◌∷◌, ◌++◌, length, map, drop, filter, min, Option, Some, None, slice_index_or, if◌then◌else◌, All}
+use Rattle.std.specs.Prelude.{ℕ, ◌+◌, ◌*◌, ◌≢◌, ◌<◌, ◌≤◌, nat_le, Bool, true, false, List, [], ◌∷◌, ◌++◌, length, map, drop, filter, min, Option, Some, None, slice_index_or, if◌then◌else◌, All}
 use Rattle.arena_core.specs.declared.lit.TheConstants.{MOST_VARIABLES}
-use Rattle.watch_core.specs.Places.{is_true, is_false}
+use Rattle.literals_core.specs.Literal.{variable_of}
+use Rattle.literals_core.specs.Truth.{is_true, is_false}
 
 -- a true literal, its level, and the clause that it follows from, if any
 pub record Entry (L : Type 0) : Type 0 where
@@ -74,4 +75,4 @@ pub record IsTrail {L : Type 0} (at : L → ℕ) (t : Assignment L) : Type 0 whe
   pub few : t.variables ≤ MOST_VARIABLES
   pub low : t.level ≤ t.variables
   pub short : length t.entries ≤ t.variables
-  pub apart : (i j : ℕ) (d : Entry L) → i < j → j < length t.entries → at (slice_index_or t.entries i d).literal / 2 ≢ at (slice_index_or t.entries j d).literal / 2
+  pub apart : (i j : ℕ) (d : Entry L) → i < j → j < length t.entries → variable_of (at (slice_index_or t.entries i d).literal) ≢ variable_of (at (slice_index_or t.entries j d).literal)

@@ -1,6 +1,6 @@
 //! Laws on how the conditions of propagation come about.
 ghost use Rattle.std.specs.Prelude.{ℕ, ◌≡◌, ◌<◌, ◌≤◌, false, List, [], ◌∷◌, ◌++◌, length, All, Option, slice_index_or};
-ghost use Rattle.watch_core.specs.Places.{is_false};
+ghost use Rattle.literals_core.specs.Truth.{is_false};
 ghost use Rattle.watch_core.specs.Trail.{Assignment, Entry, IsTrail, places, cut, waiting, assigned, decided, undone, empty_trail};
 ghost use Rattle.watch_core.specs.Settled.{SettledBelow, CanPropagate, IsAtRest};
 

@@ -1,5 +1,6 @@
 //! Propagation at a concrete type of literals.
-ghost use Rattle.std.specs.Prelude.{◌≡◌, ◌≢◌, ◌+◌, ◌*◌, ◌/◌, ◌<◌, [], ◌∷◌, ◌++◌, length, OnOk, if◌then◌else◌};
+ghost use Rattle.std.specs.Prelude.{◌≡◌, ◌≢◌, ◌+◌, ◌*◌, ◌<◌, [], ◌∷◌, ◌++◌, length, OnOk, if◌then◌else◌};
+ghost use Rattle.literals_core.specs.Literal.{variable_of};
 ghost use Rattle.watch_core.specs.Trail.{empty_trail};
 
 use crate::{Added, Standing, Watched};
@@ -24,7 +25,7 @@ fn literal(place: u8) -> SmallLit
 fn add(watched: &mut Watched<SmallLit>, first: u8, second: u8) -> Result<Added, AllocError>
     requires trail { watched.old.trail ≡ empty_trail 5 }
     requires inside { (first < 10) × (second < 10) }
-    requires apart { first / 2 ≢ second / 2 }
+    requires apart { variable_of first ≢ variable_of second }
     requires few { length watched.old.clauses < 6 }
     ensures trail { watched.new.trail ≡ empty_trail 5 }
     ensures count { OnOk result (length watched.new.clauses ≡ length watched.old.clauses + 1) }

@@ -1,8 +1,9 @@
 //! The trail: the true literals in order, with the level and the reason of each.
-ghost use Rattle.std.specs.Prelude.{IfOk, take, slice_get, ◌⊎◌, ◌≡◌, ◌+◌, ◌*◌, ◌/◌, ◌<◌, ◌≤◌, ℕ, All, IfSome, IfNone, slice_index_or, length, Option, Some, None, true, false};
+ghost use Rattle.std.specs.Prelude.{IfOk, take, slice_get, ◌⊎◌, ◌≡◌, ◌+◌, ◌*◌, ◌<◌, ◌≤◌, ℕ, All, IfSome, IfNone, slice_index_or, length, Option, Some, None, true, false};
 ghost use Rattle.arena_core.specs.declared.arena.TheConstants.{MOST_CLAUSES};
 ghost use Rattle.arena_core.specs.declared.lit.TheConstants.{MOST_VARIABLES};
-ghost use Rattle.watch_core.specs.Places.{is_true, is_false};
+ghost use Rattle.literals_core.specs.Literal.{variable_of};
+ghost use Rattle.literals_core.specs.Truth.{is_true, is_false};
 ghost use Rattle.watch_core.specs.Trail.{Assignment, Entry, IsTrail, order, places, cut, waiting, value_of, entered, assigned, decided, undone, one_taken, empty_trail};
 ghost use Rattle.watch_core.specs.Kept.{reason_of, entries_of, IsKept};
 
@@ -93,7 +94,7 @@ impl<L: Lit> Trail<L> {
     #[inline]
     pub fn level_of(&self, variable: u32) -> u32
         requires { variable < self.now.variables }
-        ensures { (i : ℕ) (d : Entry L) → i < length self.now.entries → L.table_place (slice_index_or self.now.entries i d).literal / 2 ≡ variable → result ≡ (slice_index_or self.now.entries i d).level }
+        ensures { (i : ℕ) (d : Entry L) → i < length self.now.entries → variable_of (L.table_place (slice_index_or self.now.entries i d).literal) ≡ variable → result ≡ (slice_index_or self.now.entries i d).level }
     {
         self.marks[variable as usize].level
     }
@@ -103,7 +104,7 @@ impl<L: Lit> Trail<L> {
     pub fn reason_of(&self, variable: u32) -> Option<ClauseId>
         requires { variable < self.now.variables }
         ensures unassigned { value_of (places L.table_place self.now.entries) (2 * variable) ≡ None → result ≡ None }
-        ensures given { (i : ℕ) (d : Entry L) → i < length self.now.entries → L.table_place (slice_index_or self.now.entries i d).literal / 2 ≡ variable → result ≡ (slice_index_or self.now.entries i d).reason }
+        ensures given { (i : ℕ) (d : Entry L) → i < length self.now.entries → variable_of (L.table_place (slice_index_or self.now.entries i d).literal) ≡ variable → result ≡ (slice_index_or self.now.entries i d).reason }
     {
         if self.value_at(2 * variable as usize).is_none() {
             return None;

@@ -1,7 +1,8 @@
 //! The walk along the chain of a literal that became false.
 ghost use Rattle.std.specs.Prelude.{◌≡◌, ◌+◌, ◌*◌, ◌<◌, ◌≤◌, [], length, drop, Option, IfSome, IfNone, true};
 ghost use Rattle.arena_core.specs.Chains.{chain_at, AreApart};
-ghost use Rattle.watch_core.specs.Places.{is_false, placed};
+ghost use Rattle.literals_core.specs.Truth.{is_false};
+ghost use Rattle.watch_core.specs.Places.{placed};
 ghost use Rattle.watch_core.specs.Trail.{places, waiting};
 ghost use Rattle.watch_core.specs.Settled.{IsFalseClause};
 ghost use Rattle.watch_core.specs.Cover.{IsPropagating, watched_at};

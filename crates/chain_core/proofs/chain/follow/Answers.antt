@@ -1,6 +1,6 @@
 use Rattle.std.proofs.Common.{◌≡◌, ℕ, ◌<◌, ◌∷◌, sym, ◌∙◌, subst, ◌≤◌, arith, length}
 use Rattle.std.proofs.lemmas.List.Elements.{All-contains, All-set}
-use Rattle.chain_core.specs.Literal.{negation}
+use Rattle.literals_core.specs.Literal.{negation}
 use Rattle.chain_core.specs.Log.{known_before}
 use Rattle.chain_core.proofs.FollowFacts.{chain_turn, marked_at, clause_range}
 use Rattle.chain_core.proofs.chain.follow.Goals as goal

@@ -1,6 +1,6 @@
 use Rattle.std.proofs.Common.{◌≤◌, map, take}
 use Rattle.std.specs.List.{All}
-use Rattle.chain_core.specs.Literal.{negation}
+use Rattle.literals_core.specs.Literal.{negation}
 use Rattle.chain_core.specs.Stamps.{IsMarked}
 use Rattle.chain_core.proofs.chain.mark_all.Given as goal
 

@@ -1,5 +1,5 @@
 use Rattle.std.proofs.Common.{map, arith}
-use Rattle.chain_core.specs.Literal.{negation}
+use Rattle.literals_core.specs.Literal.{negation}
 use Rattle.chain_core.proofs.FaultFacts.{fault_passed}
 use Rattle.chain_core.proofs.checker.check_lemma.Goals as goal
 

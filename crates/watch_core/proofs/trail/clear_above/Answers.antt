@@ -1,15 +1,15 @@
 use Rattle.std.proofs.Common.{ap, refl, ◌∙◌, ◌≡◌, ◌-◌, ◌/◌, arith}
 use Rattle.std.proofs.Common.{get_or}
 use Rattle.std.proofs.lemmas.List.{get_or_default}
-use Rattle.watch_core.specs.Places.{opposite_place}
-use Rattle.watch_core.proofs.Assign.{opposite_is}
+use Rattle.literals_core.specs.Literal.{negation}
+use Rattle.watch_core.proofs.Assign.{negation_is}
 use Rattle.watch_core.proofs.TrailLemmas.{kept_turn, above_turn, clear_ends, clear_whole, turn_inside}
 use Rattle.watch_core.proofs.trail.clear_above.Goals as goal
 
 pub loop-size-preserved : goal.loop-size-preserved
 loop-size-preserved g c =
-    let away = opposite_is (g.L.Lit.table_place c.index-order-size.result) _ _ _ (g.met.L.Lit.two_places c.index-order-size.result) (g.met.L.Lit.two_places (g.L.Lit.opposite c.index-order-size.result)) (g.met.L.Lit.same_variable c.index-order-size.result) (λ e. g.met.L.Lit.differs c.index-order-size.result (g.met.L.Lit.by_place _ _ e)) in
-    let other : c.place.result ≡ opposite_place (g.L.Lit.table_place c.index-order-size.result) = c.place.ensures ∙ ap g.L.Lit.table_place c.negation.ensures ∙ away in
+    let away = negation_is (g.L.Lit.table_place c.index-order-size.result) _ _ _ (g.met.L.Lit.two_places c.index-order-size.result) (g.met.L.Lit.two_places (g.L.Lit.opposite c.index-order-size.result)) (g.met.L.Lit.same_variable c.index-order-size.result) (λ e. g.met.L.Lit.differs c.index-order-size.result (g.met.L.Lit.by_place _ _ e)) in
+    let other : c.place.result ≡ negation (g.L.Lit.table_place c.index-order-size.result) = c.place.ensures ∙ ap g.L.Lit.table_place c.negation.ensures ∙ away in
     let inside = turn_inside g.L.Lit.table_place c.loop-size.values c.args.marks.now c.args.order.now _ c.loop-size.size (c.loop-size.size - 1) c.place-place.result c.index-order-size.result c.loop-size.invariant.kept refl c.loop-size-test.true c.loop-size.invariant.few c.index-order-size.is c.place-place.ensures in
     record {
       kept = kept_turn g.L.Lit.table_place c.loop-size.values c.args.marks.now c.args.order.now _ c.loop-size.size (c.loop-size.size - 1) c.place-place.result c.place.result c.index-order-size.result c.loop-size.invariant.kept refl c.loop-size-test.true c.loop-size.invariant.few c.index-order-size.is c.place-place.ensures other;

@@ -1,5 +1,5 @@
 use Rattle.std.proofs.Common.{◌≡◌, ℕ, ◌<◌, ◌≤◌, true, get_or}
-use Rattle.watch_core.specs.Places.{is_false}
+use Rattle.literals_core.specs.Truth.{is_false}
 use Rattle.watch_core.specs.Trail.{places}
 use Rattle.watch_core.proofs.trail.open_place.Given as goal
 

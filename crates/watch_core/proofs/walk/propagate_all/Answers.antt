@@ -1,25 +1,27 @@
 use Rattle.std.proofs.Common.{ap, sym, refl, ◌∙◌, ◌≡◌, ◌+◌, arith}
-use Rattle.watch_core.specs.Places.{opposite_place, placed}
+use Rattle.literals_core.specs.Literal.{negation}
+use Rattle.literals_core.proofs.Negation.{negation_twice}
+use Rattle.watch_core.specs.Places.{placed}
 use Rattle.watch_core.specs.Trail.{one_taken}
-use Rattle.watch_core.proofs.Assign.{opposite_is, twice}
+use Rattle.watch_core.proofs.Assign.{negation_is}
 use Rattle.watch_core.proofs.Going.{goes_trans}
-use Rattle.watch_core.proofs.Visit.{first_waits, first_low, none_waits, opposite_low, walked_taken}
+use Rattle.watch_core.proofs.Visit.{first_waits, first_low, none_waits, negation_low, walked_taken}
 use Rattle.watch_core.proofs.Looks.{looks_more, looks_all}
 use Rattle.watch_core.proofs.walk.propagate_all.Goals as goal
 
 pub walk-requires-clause-waits : goal.walk-requires-clause-waits
 walk-requires-clause-waits g c =
-    let away = opposite_is (g.L.Lit.table_place c.in-Some.literal) _ _ _ (g.met.L.Lit.two_places c.in-Some.literal) (g.met.L.Lit.two_places (g.L.Lit.opposite c.in-Some.literal)) (g.met.L.Lit.same_variable c.in-Some.literal) (λ e. g.met.L.Lit.differs c.in-Some.literal (g.met.L.Lit.by_place _ _ e)) in
-    let other : g.L.Lit.table_place c.negation.result ≡ opposite_place (g.L.Lit.table_place c.in-Some.literal) = ap g.L.Lit.table_place c.negation.ensures ∙ away in
+    let away = negation_is (g.L.Lit.table_place c.in-Some.literal) _ _ _ (g.met.L.Lit.two_places c.in-Some.literal) (g.met.L.Lit.two_places (g.L.Lit.opposite c.in-Some.literal)) (g.met.L.Lit.same_variable c.in-Some.literal) (λ e. g.met.L.Lit.differs c.in-Some.literal (g.met.L.Lit.by_place _ _ e)) in
+    let other : g.L.Lit.table_place c.negation.result ≡ negation (g.L.Lit.table_place c.in-Some.literal) = ap g.L.Lit.table_place c.negation.ensures ∙ away in
     let first = sym c.in-Some.is ∙ c.first_waiting.ensures in
-    first_waits g.L.Lit.table_place c.loop-literal.trail c.in-Some.literal (g.L.Lit.table_place c.negation.result) first (ap opposite_place other ∙ twice (g.L.Lit.table_place c.in-Some.literal))
+    first_waits g.L.Lit.table_place c.loop-literal.trail c.in-Some.literal (g.L.Lit.table_place c.negation.result) first (ap negation other ∙ negation_twice (g.L.Lit.table_place c.in-Some.literal))
 
 pub walk-requires-clause-place : goal.walk-requires-clause-place
 walk-requires-clause-place g c =
-    let away = opposite_is (g.L.Lit.table_place c.in-Some.literal) _ _ _ (g.met.L.Lit.two_places c.in-Some.literal) (g.met.L.Lit.two_places (g.L.Lit.opposite c.in-Some.literal)) (g.met.L.Lit.same_variable c.in-Some.literal) (λ e. g.met.L.Lit.differs c.in-Some.literal (g.met.L.Lit.by_place _ _ e)) in
-    let other : g.L.Lit.table_place c.negation.result ≡ opposite_place (g.L.Lit.table_place c.in-Some.literal) = ap g.L.Lit.table_place c.negation.ensures ∙ away in
+    let away = negation_is (g.L.Lit.table_place c.in-Some.literal) _ _ _ (g.met.L.Lit.two_places c.in-Some.literal) (g.met.L.Lit.two_places (g.L.Lit.opposite c.in-Some.literal)) (g.met.L.Lit.same_variable c.in-Some.literal) (λ e. g.met.L.Lit.differs c.in-Some.literal (g.met.L.Lit.by_place _ _ e)) in
+    let other : g.L.Lit.table_place c.negation.result ≡ negation (g.L.Lit.table_place c.in-Some.literal) = ap g.L.Lit.table_place c.negation.ensures ∙ away in
     let first = sym c.in-Some.is ∙ c.first_waiting.ensures in
-    let low = opposite_low (g.L.Lit.table_place c.in-Some.literal) c.loop-literal.trail.variables (first_low g.L.Lit.table_place c.loop-literal.trail c.in-Some.literal c.loop-literal.invariant.going.covers.trail first) in
+    let low = negation_low (g.L.Lit.table_place c.in-Some.literal) c.loop-literal.trail.variables (first_low g.L.Lit.table_place c.loop-literal.trail c.in-Some.literal c.loop-literal.invariant.going.covers.trail first) in
     omega (arith, low, other)
 
 pub returns-in-Some-walk-clause-goes : goal.returns-in-Some-walk-clause-goes
@@ -27,10 +29,10 @@ returns-in-Some-walk-clause-goes g c = goes_trans g.L.Lit.table_place (placed g.
 
 pub loop-literal-preserved : goal.loop-literal-preserved
 loop-literal-preserved g c =
-    let away = opposite_is (g.L.Lit.table_place c.in-Some.literal) _ _ _ (g.met.L.Lit.two_places c.in-Some.literal) (g.met.L.Lit.two_places (g.L.Lit.opposite c.in-Some.literal)) (g.met.L.Lit.same_variable c.in-Some.literal) (λ e. g.met.L.Lit.differs c.in-Some.literal (g.met.L.Lit.by_place _ _ e)) in
-    let other : g.L.Lit.table_place c.negation.result ≡ opposite_place (g.L.Lit.table_place c.in-Some.literal) = ap g.L.Lit.table_place c.negation.ensures ∙ away in
+    let away = negation_is (g.L.Lit.table_place c.in-Some.literal) _ _ _ (g.met.L.Lit.two_places c.in-Some.literal) (g.met.L.Lit.two_places (g.L.Lit.opposite c.in-Some.literal)) (g.met.L.Lit.same_variable c.in-Some.literal) (λ e. g.met.L.Lit.differs c.in-Some.literal (g.met.L.Lit.by_place _ _ e)) in
+    let other : g.L.Lit.table_place c.negation.result ≡ negation (g.L.Lit.table_place c.in-Some.literal) = ap g.L.Lit.table_place c.negation.ensures ∙ away in
     let first = sym c.in-Some.is ∙ c.first_waiting.ensures in
-    let done = walked_taken g.L.Lit.table_place (placed g.L.Lit.table_place c.args.arena.now) (placed g.L.Lit.table_place c.loop-literal.arena) (placed g.L.Lit.table_place c.walk.new.arena) c.walk.new.chains.chains c.args.trail.now c.loop-literal.trail c.walk.new.trail c.take_one.new.self c.in-Some.literal (g.L.Lit.table_place c.negation.result) c.loop-literal.invariant.goes c.walk.ensures.going c.walk.ensures.goes c.walk.ensures.taken first (ap opposite_place other ∙ twice (g.L.Lit.table_place c.in-Some.literal)) c.in_default-walk.ensures.none c.take_one.ensures in
+    let done = walked_taken g.L.Lit.table_place (placed g.L.Lit.table_place c.args.arena.now) (placed g.L.Lit.table_place c.loop-literal.arena) (placed g.L.Lit.table_place c.walk.new.arena) c.walk.new.chains.chains c.args.trail.now c.loop-literal.trail c.walk.new.trail c.take_one.new.self c.in-Some.literal (g.L.Lit.table_place c.negation.result) c.loop-literal.invariant.goes c.walk.ensures.going c.walk.ensures.goes c.walk.ensures.taken first (ap negation other ∙ negation_twice (g.L.Lit.table_place c.in-Some.literal)) c.in_default-walk.ensures.none c.take_one.ensures in
     record { going = done.0; goes = done.1; room = c.walk.ensures.room ∙ c.loop-literal.invariant.room; cost = looks_more g.L.Lit.table_place (placed g.L.Lit.table_place c.args.arena.now) (placed g.L.Lit.table_place c.loop-literal.arena) (placed g.L.Lit.table_place c.walk.new.arena) c.loop-literal.chains.chains c.args.trail.now c.loop-literal.trail c.walk.new.trail c.take_one.new.self c.in-Some.literal (g.L.Lit.table_place c.negation.result) c.args.looks.now c.loop-literal.looks c.walk.new.looks c.loop-literal.invariant.goes c.walk.ensures.goes c.walk.ensures.taken c.loop-literal.invariant.going.covers.watches c.walk.ensures.apart first other c.take_one.ensures c.loop-literal.invariant.goes.taken c.loop-literal.invariant.cost c.walk.ensures.looks }
 
 pub returns-clause-none : goal.returns-clause-none
@@ -41,8 +43,8 @@ returns-clause-looks g c = (let a = looks_all g.L.Lit.table_place (placed g.L.Li
 
 pub returns-in-Some-walk-clause-looks : goal.returns-in-Some-walk-clause-looks
 returns-in-Some-walk-clause-looks g c =
-    let away = opposite_is (g.L.Lit.table_place c.in-Some.literal) _ _ _ (g.met.L.Lit.two_places c.in-Some.literal) (g.met.L.Lit.two_places (g.L.Lit.opposite c.in-Some.literal)) (g.met.L.Lit.same_variable c.in-Some.literal) (λ e. g.met.L.Lit.differs c.in-Some.literal (g.met.L.Lit.by_place _ _ e)) in
-    let other : g.L.Lit.table_place c.negation.result ≡ opposite_place (g.L.Lit.table_place c.in-Some.literal) = ap g.L.Lit.table_place c.negation.ensures ∙ away in
+    let away = negation_is (g.L.Lit.table_place c.in-Some.literal) _ _ _ (g.met.L.Lit.two_places c.in-Some.literal) (g.met.L.Lit.two_places (g.L.Lit.opposite c.in-Some.literal)) (g.met.L.Lit.same_variable c.in-Some.literal) (λ e. g.met.L.Lit.differs c.in-Some.literal (g.met.L.Lit.by_place _ _ e)) in
+    let other : g.L.Lit.table_place c.negation.result ≡ negation (g.L.Lit.table_place c.in-Some.literal) = ap g.L.Lit.table_place c.negation.ensures ∙ away in
     let first = sym c.in-Some.is ∙ c.first_waiting.ensures in
     let more = looks_more g.L.Lit.table_place (placed g.L.Lit.table_place c.args.arena.now) (placed g.L.Lit.table_place c.loop-literal.arena) (placed g.L.Lit.table_place c.walk.new.arena) c.loop-literal.chains.chains c.args.trail.now c.loop-literal.trail c.walk.new.trail (one_taken c.walk.new.trail) c.in-Some.literal (g.L.Lit.table_place c.negation.result) c.args.looks.now c.loop-literal.looks c.walk.new.looks c.loop-literal.invariant.goes c.walk.ensures.goes c.walk.ensures.taken c.loop-literal.invariant.going.covers.watches c.walk.ensures.apart first other refl c.loop-literal.invariant.goes.taken c.loop-literal.invariant.cost c.walk.ensures.looks in
     (let a = looks_all g.L.Lit.table_place (placed g.L.Lit.table_place c.args.arena.now) c.args.trail.now.taken (c.walk.new.trail.taken + 1) c.walk.new.trail.entries in omega (arith, a, more))

@@ -1,5 +1,7 @@
 use Rattle.std.proofs.Common.{ap, refl, ◌∙◌, [], arith}
-use Rattle.watch_core.specs.Places.{opposite_place, placed, is_false}
+use Rattle.literals_core.specs.Literal.{negation}
+use Rattle.literals_core.specs.Truth.{is_false}
+use Rattle.watch_core.specs.Places.{placed}
 use Rattle.watch_core.specs.Trail.{places, waiting}
 use Rattle.arena_core.specs.Chains.{chain_at}
 use Rattle.watch_core.proofs.Going.{goes_same, goes_trans}
@@ -32,7 +34,7 @@ loop-current-preserved g c = record {
   goes = goes_trans g.L.Lit.table_place (placed g.L.Lit.table_place c.args.arena.now) (placed g.L.Lit.table_place c.loop-current.arena) (placed g.L.Lit.table_place c.visit_seat.new.arena) c.args.trail.now c.loop-current.trail c.visit_seat.new.trail c.loop-current.invariant.goes c.visit_seat.ensures.goes;
   room = c.visit_seat.ensures.room ∙ c.loop-current.invariant.room;
   taken = c.visit_seat.ensures.taken ∙ c.loop-current.invariant.taken;
-  waits = waits_goes g.L.Lit.table_place (placed g.L.Lit.table_place c.loop-current.arena) (placed g.L.Lit.table_place c.visit_seat.new.arena) c.loop-current.trail c.visit_seat.new.trail (opposite_place (g.L.Lit.table_place c.args.literal)) c.visit_seat.ensures.goes c.visit_seat.ensures.taken c.loop-current.invariant.waits;
+  waits = waits_goes g.L.Lit.table_place (placed g.L.Lit.table_place c.loop-current.arena) (placed g.L.Lit.table_place c.visit_seat.new.arena) c.loop-current.trail c.visit_seat.new.trail (negation (g.L.Lit.table_place c.args.literal)) c.visit_seat.ensures.goes c.visit_seat.ensures.taken c.loop-current.invariant.waits;
   walk = walk_turn g.L.Lit.table_place (placed g.L.Lit.table_place c.loop-current.arena) (placed g.L.Lit.table_place c.visit_seat.new.arena) c.loop-current.chains.chains c.visit_seat.new.chains.chains c.loop-current.trail c.visit_seat.new.trail (g.L.Lit.table_place c.args.literal) c.in-Some.seat c.loop-current.current c.next-current.result _ c.loop-current.looks c.visit_seat.new.looks c.visit_seat.result c.next-current.ensures.apart c.loop-current.invariant.walk c.in-Some.is (c.next-current.ensures.value (g.L.Lit.table_place c.args.literal)) c.visit_seat.ensures.goes (c.loop-current.invariant.going.covers.watches.seats (g.L.Lit.table_place c.args.literal) c.in-Some.seat (walk_in (places g.L.Lit.table_place c.loop-current.trail.entries) (placed g.L.Lit.table_place c.loop-current.arena) (chain_at c.loop-current.chains.chains (g.L.Lit.table_place c.args.literal)) c.loop-current.current _ c.loop-current.looks c.in-Some.seat c.loop-current.invariant.walk c.in-Some.is)).at c.visit_seat.ensures.look c.visit_seat.ensures.outcome c.in_default-visit_seat.not-False;
 }
 

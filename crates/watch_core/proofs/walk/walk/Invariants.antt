@@ -1,6 +1,7 @@
 use Rattle.std.proofs.Common.{◌≡◌, ℕ, ◌+◌, ◌-◌, true, length, List}
 use Rattle.arena_core.specs.Chains.{chain_at}
-use Rattle.watch_core.specs.Places.{is_false, placed}
+use Rattle.literals_core.specs.Truth.{is_false}
+use Rattle.watch_core.specs.Places.{placed}
 use Rattle.watch_core.specs.Trail.{places, waiting}
 use Rattle.watch_core.specs.Cover.{IsPropagating}
 use Rattle.watch_core.specs.Propagates.{Propagates}

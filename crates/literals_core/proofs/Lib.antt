@@ -1,0 +1,5 @@
+mod Worked
+pub mod Members
+pub mod Negation
+pub mod Truth
+pub mod Settled
