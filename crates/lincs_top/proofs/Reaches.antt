@@ -4,13 +4,14 @@ use Rattle.std.specs.Prelude.{⊤}
 use Rattle.std.proofs.KnownBytes.{Appends-nil, Keeps-refl}
 use Rattle.std.proofs.lemmas.Grind.{common_steps}
 use Rattle.edge_core.specs.Outside.{Files, ShelfState, SinkState}
+use Rattle.problem_core.specs.Answers.{◌>>=◌}
 use Rattle.lincs_top.specs.declared.stop.Stop.{Stop}
 use Rattle.lincs_top.specs.declared.stop.Stop.TheVariants.{Unread, Unwritten, Refused, NoMemory}
 use Rattle.lincs_top.specs.Command.{Command, names_of}
 use Rattle.lincs_top.specs.Ending.{End, unread, refused, Ending, silent}
-use Rattle.lincs_top.specs.Course.{World, readable, unreadable_at, is_at, file_at, ◌>>=◌, Step, Ends}
+use Rattle.lincs_top.specs.Course.{World, readable, unreadable_at, is_at, file_at, Step, Ends}
 use Rattle.lincs_top.specs.FileStep.{FileStep, StopsAs}
-use Rattle.lincs_top.specs.Obeys.{OpensFirst, Answers}
+use Rattle.lincs_top.specs.Obeys.{OpensFirst, StandsAs}
 
 abbrev pub World_of : Files → Option ℕ → World
 World_of files u = record { files = files; unreadable = u }
@@ -67,7 +68,7 @@ module _ {A : Type 0} (step : FileStep A) (is_step : IsStep step) (command : Com
 
   -- a step stopped
   pub step_stopped : (shelf mid shelf' : ShelfState) (out : SinkState) (stop : Stop) → shelf.held ≡ held → Reaches command held place (λ w. Step opened (step w place name) (λ v. next v w)) → Contains (names_of command) name
-      → mid.held ≡ shelf.held → shelf.faults ≤ mid.faults → OpensFirst command opened shelf shelf' → StopsAs mid shelf' step name stop → Answers command shelf shelf' out out (Err stop)
+      → mid.held ≡ shelf.held → shelf.faults ≤ mid.faults → OpensFirst command opened shelf shelf' → StopsAs mid shelf' step name stop → StandsAs command shelf shelf' out out (Err stop)
   step_stopped shelf mid shelf' out (Unread file) is_held reached named same later asked s = (
     omega (arith, s.1),
     record {

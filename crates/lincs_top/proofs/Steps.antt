@@ -9,6 +9,7 @@ use Rattle.lincs_top.specs.declared.stop.Stop.TheVariants.{Unread, Unwritten, Re
 use Rattle.lincs_top.specs.declared.stop.Refusal.TheVariants as refusal
 use Rattle.yaml_core.specs.declared.fault.YamlFault.{YamlFault}
 use Rattle.yaml_core.specs.declared.fault.YamlFault.TheVariants as yaml
+use Rattle.problem_core.specs.Answers.{◌>>=◌}
 use Rattle.problem_core.specs.declared.fault.ProblemFault.{ProblemFault}
 use Rattle.problem_core.specs.declared.fault.ProblemFault.TheVariants as problem
 use Rattle.model_core.specs.declared.model_fault.ModelFault.{ModelFault}
@@ -18,7 +19,7 @@ use Rattle.table_core.specs.declared.fault.TableFault.TheVariants as table
 use Rattle.lincs_top.specs.Refusal.{yaml_refusal, problem_refusal, model_refusal, table_refusal}
 use Rattle.lincs_top.specs.Stop.{stop_of}
 use Rattle.lincs_top.specs.Ending.{End, refused}
-use Rattle.lincs_top.specs.Course.{◌>>=◌, refusing}
+use Rattle.lincs_top.specs.Course.{refusing}
 use Rattle.lincs_top.specs.FileStep.{FileStep, Gives, StopsAs}
 
 -- the file is refused for this, which is not its length; nothing is said where memory was refused

@@ -4,6 +4,7 @@ use Rattle.edge_core.specs.Outside.{Files, bytes_of}
 use Rattle.edge_core.specs.declared.whole_file.TheConstants.{MOST_BYTES}
 use Rattle.yaml_core.specs.Read.{reading}
 use Rattle.yaml_core.specs.declared.node.Node.{Node}
+use Rattle.problem_core.specs.Answers.{◌>>=◌}
 use Rattle.problem_core.specs.Problem.{ProblemValue}
 use Rattle.problem_core.specs.ReadProblem.{problem_of}
 use Rattle.table_core.specs.Table.{TableState, opening}
@@ -29,12 +30,6 @@ unreadable_at files place = record { files = files; unreadable = Some place }
 abbrev pub is_at : Option ℕ → ℕ → Bool
 is_at None place = false
 is_at (Some other) place = other == place
-
--- a step gives a value, or the course ends there
-infixl 10 ◌>>=◌
-abbrev pub ◌>>=◌ : {A B : Type 0} → Result A End → (A → Result B End) → Result B End
-(Ok value) >>= next = next value
-(Err end) >>= next = Err end
 
 -- what a reader refuses is refused as this file's
 abbrev pub refusing : {A F : Type 0} → List ℕ → (F → Refusal) → Result A F → Result A End

@@ -25,14 +25,14 @@ StopsAs old new step name (Refused file refusal) = (file.now ≡ name) × Gives 
 StopsAs old new step name NoMemory = ⊤
 
 -- it answers as the step does over told files; a file that can't be read has its cause
-abbrev pub AnswersAs : {A : Type 0} → ShelfState → ShelfState → FileStep A → List ℕ → Result A Stop → Type 0
-AnswersAs old new step name (Ok value) = Gives old step name (Ok value)
-AnswersAs old new step name (Err stop) = StopsAs old new step name stop
+abbrev pub StepsAs : {A : Type 0} → ShelfState → ShelfState → FileStep A → List ℕ → Result A Stop → Type 0
+StepsAs old new step name (Ok value) = Gives old step name (Ok value)
+StepsAs old new step name (Err stop) = StopsAs old new step name stop
 
 -- the same of the step that gives a file's bytes
-abbrev pub AnswersBytes : ShelfState → ShelfState → List ℕ → Result (Vec ℕ Global) Stop → Type 0
-AnswersBytes old new name (Ok bytes) = Gives old file_at name (Ok bytes.items) × (length bytes.items ≤ MOST_BYTES)
-AnswersBytes old new name (Err stop) = StopsAs old new file_at name stop
+abbrev pub StepsAsBytes : ShelfState → ShelfState → List ℕ → Result (Vec ℕ Global) Stop → Type 0
+StepsAsBytes old new name (Ok bytes) = Gives old file_at name (Ok bytes.items) × (length bytes.items ≤ MOST_BYTES)
+StepsAsBytes old new name (Err stop) = StopsAs old new file_at name stop
 
 -- one file was opened, the one of this name; what the shelf holds stays, and its count doesn't fall
 pub record OpensOne (old new : ShelfState) (name : List ℕ) : Type 0 where

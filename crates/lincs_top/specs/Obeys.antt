@@ -46,14 +46,14 @@ pub record WasRefused (command : Command) (shelf shelf' : ShelfState) (out out' 
   pub taken : refusal ≡ TooLong → MOST_BYTES < shelf'.taken
 
 -- what a command's function did, by its answer
-abbrev pub Answers : Command → ShelfState → ShelfState → SinkState → SinkState → Result (Unit {0}) Stop → Type 0
-Answers command shelf shelf' out out' (Ok _) = EndsSo command shelf shelf' out out' (λ end. end ≡ done)
-Answers command shelf shelf' out out' (Err (Unread name)) = Rose shelf.faults shelf'.faults × Misses command shelf shelf' name.now × (out' ≡ out)
-Answers command shelf shelf' out out' (Err Unwritten) = Rose out.faults out'.faults × WritesPart command shelf shelf' out out'
-Answers command shelf shelf' out out' (Err (Refused name refusal)) = WasRefused command shelf shelf' out out' name.now refusal
-Answers command shelf shelf' out out' (Err NoMemory) = LeavesOnNoMemory command shelf out out'
+abbrev pub StandsAs : Command → ShelfState → ShelfState → SinkState → SinkState → Result (Unit {0}) Stop → Type 0
+StandsAs command shelf shelf' out out' (Ok _) = EndsSo command shelf shelf' out out' (λ end. end ≡ done)
+StandsAs command shelf shelf' out out' (Err (Unread name)) = Rose shelf.faults shelf'.faults × Misses command shelf shelf' name.now × (out' ≡ out)
+StandsAs command shelf shelf' out out' (Err Unwritten) = Rose out.faults out'.faults × WritesPart command shelf shelf' out out'
+StandsAs command shelf shelf' out out' (Err (Refused name refusal)) = WasRefused command shelf shelf' out out' name.now refusal
+StandsAs command shelf shelf' out out' (Err NoMemory) = LeavesOnNoMemory command shelf out out'
 
 -- what a command's function does
 pub record Obeys (command : Command) (shelf shelf' : ShelfState) (out out' : SinkState) (result : Result (Unit {0}) Stop) : Type 0 where
-  pub answers : Answers command shelf shelf' out out' result
+  pub answers : StandsAs command shelf shelf' out out' result
   pub asked : (count : ℕ) × OpensFirst command count shelf shelf'

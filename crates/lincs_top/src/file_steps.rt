@@ -4,7 +4,7 @@ ghost use Rattle.model_core.specs.Model.{Belongs};
 ghost use Rattle.table_core.specs.Table.{IsTableOf};
 ghost use Rattle.lincs_top.specs.Course.{tree_at, problem_at, model_at, table_at};
 ghost use Rattle.lincs_top.specs.Refusal.{yaml_refusal, problem_refusal, model_refusal, table_refusal};
-ghost use Rattle.lincs_top.specs.FileStep.{AnswersAs, AnswersBytes, OpensOne};
+ghost use Rattle.lincs_top.specs.FileStep.{StepsAs, StepsAsBytes, OpensOne};
 
 use crate::stop::{Refusal, Stop};
 use edge_core::{LoadFault, Shelf, load};
@@ -55,7 +55,7 @@ fn table_refusal(fault: TableFault) -> Option<Refusal>
 fn read_file<'a, S: Shelf>(alloc: Global, shelf: &mut S, name: &'a str) -> Result<Vec<u8>, Stop<'a>>
     requires { IsTrue ((S.state shelf.old).may_open name.now) }
     ensures opens { OpensOne (S.state shelf.old) (S.state shelf.new) name.now }
-    ensures step { AnswersBytes (S.state shelf.old) (S.state shelf.new) name.now result }
+    ensures step { StepsAsBytes (S.state shelf.old) (S.state shelf.new) name.now result }
 {
     match load(alloc, shelf, name) {
         Ok(bytes) => Ok(bytes),
@@ -69,7 +69,7 @@ fn read_file<'a, S: Shelf>(alloc: Global, shelf: &mut S, name: &'a str) -> Resul
 fn read_tree<'a, S: Shelf>(alloc: Global, shelf: &mut S, name: &'a str) -> Result<Node, Stop<'a>>
     requires { IsTrue ((S.state shelf.old).may_open name.now) }
     ensures opens { OpensOne (S.state shelf.old) (S.state shelf.new) name.now }
-    ensures step { AnswersAs (S.state shelf.old) (S.state shelf.new) tree_at name.now result }
+    ensures step { StepsAs (S.state shelf.old) (S.state shelf.new) tree_at name.now result }
 {
     let bytes = read_file(alloc, shelf, name)?;
     match read_yaml(alloc, &bytes) {
@@ -86,7 +86,7 @@ pub fn problem_of_file<'a, S: Shelf>(
 ) -> Result<Problem, Stop<'a>>
     requires { IsTrue ((S.state shelf.old).may_open name.now) }
     ensures opens { OpensOne (S.state shelf.old) (S.state shelf.new) name.now }
-    ensures step { AnswersAs (S.state shelf.old) (S.state shelf.new) problem_at name.now result }
+    ensures step { StepsAs (S.state shelf.old) (S.state shelf.new) problem_at name.now result }
 {
     let node = read_tree(alloc, shelf, name)?;
     match read_problem(alloc, &node) {
@@ -104,7 +104,7 @@ pub fn model_of_file<'a, S: Shelf>(
 ) -> Result<RootsModel, Stop<'a>>
     requires { IsTrue ((S.state shelf.old).may_open name.now) }
     ensures opens { OpensOne (S.state shelf.old) (S.state shelf.new) name.now }
-    ensures step { AnswersAs (S.state shelf.old) (S.state shelf.new) (model_at problem.now) name.now result }
+    ensures step { StepsAs (S.state shelf.old) (S.state shelf.new) (model_at problem.now) name.now result }
     ensures belongs { IfOk result (Belongs problem.now) }
 {
     let node = read_tree(alloc, shelf, name)?;
@@ -123,7 +123,7 @@ pub fn table_of_file<'a, S: Shelf>(
 ) -> Result<Table, Stop<'a>>
     requires { IsTrue ((S.state shelf.old).may_open name.now) }
     ensures opens { OpensOne (S.state shelf.old) (S.state shelf.new) name.now }
-    ensures step { AnswersAs (S.state shelf.old) (S.state shelf.new) (table_at problem.now) name.now result }
+    ensures step { StepsAs (S.state shelf.old) (S.state shelf.new) (table_at problem.now) name.now result }
     ensures fits { IfOk result (IsTableOf problem.now) }
 {
     let bytes = read_file(alloc, shelf, name)?;

@@ -1,5 +1,4 @@
 pub mod Indices
-pub mod FaultLemmas
 pub mod AcceptedLemmas
 pub mod CategoryLemmas
 pub mod OrderLemmas

@@ -5,5 +5,4 @@ pub mod Row
 pub mod Table
 pub mod Advance
 pub mod Rows
-pub mod Answers
 pub mod Written
