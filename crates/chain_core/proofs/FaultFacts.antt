@@ -5,7 +5,7 @@ use Rattle.std.proofs.lemmas.List.{drop_more}
 use Rattle.std.proofs.lemmas.Option.{slice_get_within, get_or_from_slice_get}
 use Rattle.std.proofs.lemmas.List.Elements.{All-push}
 use Rattle.literals_core.specs.Literal.{variable_of}
-use Rattle.chain_core.specs.Cnf.{Cnf, InRange}
+use Rattle.literals_core.specs.Formula.{Cnf, InRange}
 use Rattle.chain_core.specs.Chain.{chain_succeeds}
 use Rattle.chain_core.specs.Log.{known_before, lemma_fault, first_fault, or_else}
 use Rattle.chain_core.proofs.KnownFacts.{length-known, known_more}

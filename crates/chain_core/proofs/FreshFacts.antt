@@ -5,7 +5,7 @@ use Rattle.std.proofs.lemmas.List.Elements.{All-contains}
 use Rattle.literals_core.specs.Literal.{negation}
 use Rattle.literals_core.specs.Truth.{IsTrueUnder, IsFalseUnder}
 use Rattle.literals_core.specs.Settled.{IsSettled}
-use Rattle.chain_core.specs.Cnf.{Cnf}
+use Rattle.literals_core.specs.Formula.{Cnf}
 use Rattle.chain_core.specs.Log.{known_before}
 use Rattle.chain_core.specs.Fresh.{HasNoPair, LeavesOne, IsFresh}
 use Rattle.chain_core.specs.declared.log.Lemma.{Lemma}

@@ -7,7 +7,7 @@ use Rattle.std.proofs.lemmas.List.{append-nil, append_assoc}
 use Rattle.std.proofs.lemmas.List.Elements.{All-cons, All-nil, All-head, All-tail}
 use Rattle.std.proofs.lemmas.Option.{none-some, same_Some}
 use Rattle.literals_core.specs.Literal.{variable_of, negation}
-use Rattle.chain_core.specs.Cnf.{Cnf}
+use Rattle.literals_core.specs.Formula.{Cnf}
 use Rattle.chain_core.specs.Chain.{chain_succeeds}
 use Rattle.chain_core.specs.Log.{IsGoodLemma, EndsEmpty, IsRefutation, lemma_fault, first_fault, or_else, ends_empty, refutation_fault}
 use Rattle.chain_core.specs.declared.log.Lemma.{Lemma}

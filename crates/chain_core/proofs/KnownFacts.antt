@@ -4,7 +4,7 @@ use Rattle.std.specs.List.{slice_get, All}
 use Rattle.std.proofs.lemmas.List.{get_or-append_right, get_or-map, get_or-take, length-take-le, length-append, length-map, take_more, map-append, append_assoc}
 use Rattle.std.proofs.lemmas.List.Elements.{All-get_or}
 use Rattle.std.proofs.lemmas.Option.{slice_get-get_or, slice_get_within, get_or_from_slice_get, none-some}
-use Rattle.chain_core.specs.Cnf.{Cnf}
+use Rattle.literals_core.specs.Formula.{Cnf}
 use Rattle.chain_core.specs.Chain.{clause_at}
 use Rattle.chain_core.specs.Log.{known_before}
 use Rattle.chain_core.specs.declared.log.Lemma.{Lemma}

@@ -7,7 +7,7 @@ use Rattle.std.proofs.lemmas.List.{append-nil, append_assoc}
 use Rattle.std.proofs.lemmas.List.Folds.{Any-from_list_any, list_any-from_Any}
 use Rattle.std.proofs.lemmas.Option.{none-some, same_Some}
 use Rattle.literals_core.specs.Literal.{variable_of, negation}
-use Rattle.chain_core.specs.Cnf.{Cnf}
+use Rattle.literals_core.specs.Formula.{Cnf}
 use Rattle.chain_core.specs.Chain.{chain_succeeds}
 use Rattle.chain_core.specs.Log.{lemma_fault, first_fault, or_else, ends_empty, refutation_fault}
 use Rattle.chain_core.specs.Refusal.{LemmaFails, other_id, high_literal, other_hint, no_chain, IsRefused}

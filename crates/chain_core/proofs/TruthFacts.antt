@@ -7,10 +7,10 @@ use Rattle.std.proofs.lemmas.List.Elements.{All-push, All-cons, All-nil, All-con
 use Rattle.literals_core.specs.Literal.{negation}
 use Rattle.literals_core.specs.Truth.{IsFalseUnder}
 use Rattle.literals_core.proofs.Members.{Contains-first, Contains-later}
-use Rattle.chain_core.specs.Cnf.{Cnf}
+use Rattle.literals_core.specs.Formula.{Cnf}
 use Rattle.chain_core.specs.Chain.{Chains, ends, adds}
 use Rattle.chain_core.specs.Log.{IsGoodLemma, IsRefutation}
-use Rattle.chain_core.specs.Truth.{literal_true, clause_true, Satisfies, IsUnsatisfiable}
+use Rattle.literals_core.specs.Values.{literal_true, clause_true, Satisfies, IsUnsatisfiable}
 use Rattle.chain_core.specs.declared.log.Lemma.{Lemma}
 use Rattle.chain_core.proofs.KnownFacts.{All-clause_at}
 use Rattle.chain_core.proofs.GoodFacts.{GoodAfter, first_good, rest_good}

@@ -10,7 +10,7 @@ use Rattle.lists_core.specs.Puts.{Puts}
 use Rattle.lists_core.proofs.PutsFacts.{puts-then, puts-cut, puts-failed}
 use Rattle.literals_core.specs.Literal.{variable_of}
 use Rattle.chain_core.specs.Text.{line_of, sign_text, literal_word, size_words, clause_words, lemma_words, header_words, dimacs_text}
-use Rattle.chain_core.specs.Cnf.{Cnf}
+use Rattle.literals_core.specs.Formula.{Cnf}
 use Rattle.chain_core.specs.Lemma.{IsNumbered, IsWritable}
 use Rattle.chain_core.specs.Literal.{IsPlace}
 use Rattle.chain_core.specs.declared.number.TheConstants.{MOST_ID}

@@ -3,7 +3,7 @@ use Rattle.std.specs.Prelude.{ℕ, ◌≡◌, ◌⊎◌, List, Some, slice_get, 
 use Rattle.literals_core.specs.Literal.{negation}
 use Rattle.literals_core.specs.Truth.{IsTrueUnder, IsFalseUnder}
 use Rattle.literals_core.specs.Settled.{IsSettled}
-use Rattle.chain_core.specs.Cnf.{Cnf}
+use Rattle.literals_core.specs.Formula.{Cnf}
 use Rattle.chain_core.specs.Log.{known_before}
 use Rattle.chain_core.specs.declared.log.Lemma.{Lemma}
 

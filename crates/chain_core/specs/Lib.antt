@@ -1,10 +1,8 @@
 pub mod Literal
-pub mod Cnf
 pub mod Lemma
 pub mod Chain
 pub mod Log
 pub mod Refusal
-pub mod Truth
 pub mod Fresh
 pub mod Stamps
 pub mod Text

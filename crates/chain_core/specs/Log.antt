@@ -2,7 +2,7 @@
 use Rattle.std.specs.Prelude.{ℕ, ◌≡◌, ◌+◌, ◌<◌, ◌≤◌, ◌==◌, ◌||◌, nat_lt, nat_le, not, Bool, false, List, [], ◌∷◌, ◌++◌, Option, Some, None, length, if◌then◌else◌, map, take, slice_get, All}
 use Rattle.std.specs.List.{list_any}
 use Rattle.literals_core.specs.Literal.{variable_of, negation}
-use Rattle.chain_core.specs.Cnf.{Cnf}
+use Rattle.literals_core.specs.Formula.{Cnf}
 use Rattle.chain_core.specs.Chain.{Chains, chain_succeeds}
 use Rattle.chain_core.specs.declared.log.Lemma.{Lemma}
 use Rattle.chain_core.specs.declared.fault.CheckFault.{CheckFault}

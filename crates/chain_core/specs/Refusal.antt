@@ -1,7 +1,7 @@
 -- Why a log is no refutation.
 use Rattle.std.specs.Prelude.{ℕ, ◌≡◌, ◌≢◌, ◌+◌, ◌<◌, ◌≤◌, ◌⊎◌, List, ◌∷◌, ◌++◌, length, map, All, Any}
 use Rattle.literals_core.specs.Literal.{variable_of, negation}
-use Rattle.chain_core.specs.Cnf.{Cnf}
+use Rattle.literals_core.specs.Formula.{Cnf}
 use Rattle.chain_core.specs.Chain.{Chains}
 use Rattle.chain_core.specs.Log.{known_after, IsGood, EndsEmpty}
 use Rattle.chain_core.specs.declared.log.Lemma.{Lemma}

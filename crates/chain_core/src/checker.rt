@@ -4,12 +4,12 @@ ghost use Rattle.std.specs.Bool.{OnFalse};
 ghost use Rattle.std.specs.List.{list_any};
 ghost use Rattle.lists_core.specs.declared.list_of.TheConstants.{MOST_ITEMS};
 ghost use Rattle.literals_core.specs.Literal.{variable_of};
-ghost use Rattle.chain_core.specs.Cnf.{InRange};
+ghost use Rattle.literals_core.specs.Formula.{InRange};
 ghost use Rattle.chain_core.specs.Log.{known_before, lemma_fault, first_fault, refutation_fault, IsRefutation, ends_empty};
 ghost use Rattle.chain_core.specs.Refusal.{IsRefused};
 ghost use Rattle.chain_core.specs.declared.fault.CheckFault.{CheckFault};
 ghost use Rattle.chain_core.specs.declared.fault.CheckFault.TheVariants.{NoMemory};
-ghost use Rattle.chain_core.specs.Truth.{IsUnsatisfiable};
+ghost use Rattle.literals_core.specs.Values.{IsUnsatisfiable};
 
 use crate::chain::{follow, mark_all};
 use crate::fault::CheckFault;

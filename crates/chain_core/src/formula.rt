@@ -2,7 +2,7 @@
 ghost use Rattle.std.specs.Prelude.{◌≡◌, ◌∷◌, ◌++◌, [], length, OnOk, OnErr, ◌<◌, ◌≤◌, ◌+◌, All, Some};
 ghost use Rattle.literals_core.specs.Literal.{variable_of};
 ghost use Rattle.chain_core.specs.Chain.{clause_at};
-ghost use Rattle.chain_core.specs.Cnf.{InRange};
+ghost use Rattle.literals_core.specs.Formula.{InRange};
 
 use crate::literal::{GREATEST_VARIABLE, Literal};
 use rows_core::Rows;
@@ -22,7 +22,7 @@ pub struct Formula {
 
 impl Model for Formula {
     ghost use Rattle.std.specs.Prelude.{length, ◌≤◌};
-    ghost use Rattle.chain_core.specs.Cnf.{Cnf, InRange};
+    ghost use Rattle.literals_core.specs.Formula.{Cnf, InRange};
     ghost use Rattle.chain_core.specs.declared.literal.TheConstants.{GREATEST_VARIABLE};
     ghost use Rattle.chain_core.specs.declared.formula.TheConstants.{MOST_CLAUSES};
 

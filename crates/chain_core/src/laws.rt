@@ -1,7 +1,7 @@
 //! Laws of chains and of fresh logs, each on a function that does nothing.
 
 ghost use Rattle.std.specs.Prelude.{◌≡◌, ◌↔◌, ℕ, true, List, Some, slice_get, All, Contains};
-ghost use Rattle.chain_core.specs.Cnf.{Cnf};
+ghost use Rattle.literals_core.specs.Formula.{Cnf};
 ghost use Rattle.chain_core.specs.Chain.{Chains, chain_from};
 ghost use Rattle.chain_core.specs.Log.{known_before};
 ghost use Rattle.chain_core.specs.Fresh.{IsFresh};

@@ -4,7 +4,7 @@ use Rattle.std.specs.Prelude.{⊤}
 use Rattle.std.proofs.KnownBytes.{Appends-nil, Keeps-refl}
 use Rattle.std.proofs.lemmas.Grind.{common_steps}
 use Rattle.edge_core.specs.Outside.{Files, ShelfState, SinkState}
-use Rattle.problem_core.specs.Answers.{◌>>=◌}
+use Rattle.lists_core.specs.Answers.{◌>>=◌}
 use Rattle.lincs_top.specs.declared.stop.Stop.{Stop}
 use Rattle.lincs_top.specs.declared.stop.Stop.TheVariants.{Unread, Unwritten, Refused, NoMemory}
 use Rattle.lincs_top.specs.Command.{Command, names_of}

@@ -9,7 +9,7 @@ use Rattle.lincs_top.specs.declared.stop.Stop.TheVariants.{Unread, Unwritten, Re
 use Rattle.lincs_top.specs.declared.stop.Refusal.TheVariants as refusal
 use Rattle.yaml_core.specs.declared.fault.YamlFault.{YamlFault}
 use Rattle.yaml_core.specs.declared.fault.YamlFault.TheVariants as yaml
-use Rattle.problem_core.specs.Answers.{◌>>=◌}
+use Rattle.lists_core.specs.Answers.{◌>>=◌}
 use Rattle.problem_core.specs.declared.fault.ProblemFault.{ProblemFault}
 use Rattle.problem_core.specs.declared.fault.ProblemFault.TheVariants as problem
 use Rattle.model_core.specs.declared.model_fault.ModelFault.{ModelFault}

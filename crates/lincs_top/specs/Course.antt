@@ -4,7 +4,7 @@ use Rattle.edge_core.specs.Outside.{Files, bytes_of}
 use Rattle.edge_core.specs.declared.whole_file.TheConstants.{MOST_BYTES}
 use Rattle.yaml_core.specs.Read.{reading}
 use Rattle.yaml_core.specs.declared.node.Node.{Node}
-use Rattle.problem_core.specs.Answers.{◌>>=◌}
+use Rattle.lists_core.specs.Answers.{◌>>=◌}
 use Rattle.problem_core.specs.Problem.{ProblemValue}
 use Rattle.problem_core.specs.ReadProblem.{problem_of}
 use Rattle.table_core.specs.Table.{TableState, opening}

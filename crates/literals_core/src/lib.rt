@@ -1,5 +1,10 @@
-//! Literals, in definitions and laws: negation, truth under a set of literals, clauses that are settled.
+//! Literals, clauses and formulas, in definitions and laws: negation, truth under a set of literals and under truth values, clauses that
+//! are settled; and the name of an encoding.
 #![tactic(auto)]
+
+mod encoding;
+
+pub use encoding::Encoding;
 
 ghost use Rattle.std.specs.Prelude.{◌≡◌, ◌≢◌, ◌≤◌, ◌==◌, ◌⊎◌, ◌↔◌, ℕ, true, List, length, Contains};
 ghost use Rattle.std.specs.List.{IsDistinct};

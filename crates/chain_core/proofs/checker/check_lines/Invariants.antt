@@ -1,6 +1,6 @@
 use Rattle.std.proofs.Common.{◌≡◌, ◌+◌, ◌≤◌, drop}
 use Rattle.std.specs.List.{All}
-use Rattle.chain_core.specs.Cnf.{InRange}
+use Rattle.literals_core.specs.Formula.{InRange}
 use Rattle.chain_core.specs.Log.{first_fault}
 use Rattle.chain_core.specs.Log.{known_before}
 use Rattle.chain_core.proofs.checker.check_lines.Given as goal

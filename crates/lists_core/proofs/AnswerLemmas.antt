@@ -1,7 +1,7 @@
 -- What an accepted chain of steps says, and what a chain makes of the fault of a step.
 use Rattle.std.proofs.Common.{◌≡◌, Bool, true, false, Option, Some, None, Result, Ok, Err, ◌⊎◌, inl, inr, refl, ap, ◌∙◌}
 use Rattle.std.specs.Option.{ok_or}
-use Rattle.problem_core.specs.Answers.{◌>>=◌, require}
+use Rattle.lists_core.specs.Answers.{◌>>=◌, require}
 
 -- an accepted chain had a value, and the rest accepted that value
 pub accepted_bind : {A B E : Type 0} (read : Result A E) (rest : A → Result B E) (made : B) → (read >>= rest) ≡ Ok made → (value : A) × (read ≡ Ok value) × (rest value ≡ Ok made)
