@@ -1,4 +1,4 @@
-//! The generic list, and what a call that appends a text leaves.
+//! The generic list; definitions of what a reader returns and of what a call that appends a text leaves.
 #![tactic(auto)]
 
 mod list_of;
@@ -11,7 +11,7 @@ mod tests {
     use std::test::Fail;
 
     #[test]
-    fn items_stand_in_the_order_of_push(rt: HostRuntime) -> Result<(), Fail> {
+    fn items_keep_the_order_of_push(rt: HostRuntime) -> Result<(), Fail> {
         let mut masks = ListOf::new(rt.alloc());
         masks.push(3u32)?;
         masks.push(1)?;

@@ -1,10 +1,10 @@
-//! The list type that small types seen as lists are aliases of.
+//! The generic list that the small list types are aliases of.
 ghost use Rattle.std.specs.Prelude.{◌≡◌, [], ◌∷◌, ◌++◌, ◌<◌, ◌≤◌, Some, length, slice_get, OnOk, OnErr, IsTrue, ◌↔◌};
 
 use std::alloc::{AllocError, Global};
 use std::marker::Model;
 
-/// The most items that a list holds, so that their number and every place fit 32 bits.
+/// The most items that a list holds. Their number and every place fit in 32 bits.
 pub const MOST_ITEMS: u32 = 4_000_000_000;
 
 /// A list of at most [`MOST_ITEMS`] items, which contracts see as the list of its items.
@@ -39,7 +39,7 @@ impl<T> ListOf<T> {
 
     /// The list of a vector's items. Takes no memory.
     pub fn from_vec(items: Vec<T>) -> Self
-        requires { length items.items ≤ MOST_ITEMS }
+        requires { length items.items ≤ 4000000000 }
         ensures { result ≡ items.items }
     {
         ListOf { items }
@@ -48,7 +48,7 @@ impl<T> ListOf<T> {
     /// The items as a vector. Takes no memory.
     pub fn into_vec(self) -> Vec<T>
         ensures items { result.items ≡ self }
-        ensures bound { length self ≤ MOST_ITEMS }
+        ensures bound { length self ≤ 4000000000 }
     {
         self.items
     }
@@ -56,7 +56,7 @@ impl<T> ListOf<T> {
     /// The number of items.
     pub fn len(&self) -> u32
         ensures count { result ≡ length self.now }
-        ensures bound { length self.now ≤ MOST_ITEMS }
+        ensures bound { length self.now ≤ 4000000000 }
     {
         self.items.len() as u32
     }
@@ -76,19 +76,19 @@ impl<T> ListOf<T> {
         &self.items[k as usize]
     }
 
-    /// All items, in order.
+    /// The items in order, as a slice.
     pub fn as_slice(&self) -> &[T]
         ensures items { result.now ≡ self.now }
-        ensures bound { length self.now ≤ MOST_ITEMS }
+        ensures bound { length self.now ≤ 4000000000 }
     {
         self.items.as_slice()
     }
 }
 
 impl<T: Drop> ListOf<T> {
-    /// Puts an item last. Want of memory leaves the list as it was, and drops the item.
+    /// Puts an item last. If memory runs out, the list stays as it was and the item is dropped.
     pub fn push(&mut self, item: T) -> Result<(), AllocError>
-        requires { length self.old < MOST_ITEMS }
+        requires { length self.old < 4000000000 }
         ensures ok { OnOk result (self.new ≡ self.old ++ item ∷ []) }
         ensures err { OnErr result (self.new ≡ self.old) }
     {

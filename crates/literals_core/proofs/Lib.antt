@@ -3,3 +3,5 @@ pub mod Members
 pub mod Negation
 pub mod Truth
 pub mod Settled
+pub mod Values
+pub mod Raised

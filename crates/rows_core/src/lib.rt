@@ -6,7 +6,7 @@ ghost use Rattle.std.specs.Prelude.{◌≡◌, ℕ, ◌+◌, ◌<◌, ◌≤◌,
 use std::alloc::{AllocError, Global};
 use std::marker::Model;
 
-/// Where a row lies among the items: from `start` up to `end`.
+/// Where a row lies among the items: from `start` to before `end`.
 #[derive(Clone, Copy, Debug, PartialEq, Eq)]
 pub struct Span {
     pub start: usize,
@@ -15,7 +15,7 @@ pub struct Span {
 
 /// A list of rows, which contracts see as a list of lists.
 ///
-/// All items lie in one vector, so a row costs no allocation of its own.
+/// All items lie in one vector, so a row needs no allocation of its own.
 #[derive(Drop)]
 pub struct Rows<T> {
     items: Vec<T>,
@@ -44,7 +44,7 @@ impl<T: Copy> Rows<T> {
         }
     }
 
-    /// How many rows there are.
+    /// The number of rows.
     pub fn count(&self) -> usize
         ensures { result ≡ length self.now }
     {
@@ -60,7 +60,7 @@ impl<T: Copy> Rows<T> {
         &self.items[span.start..span.end]
     }
 
-    /// Puts a row last. Want of memory leaves the rows as they were.
+    /// Puts a row last. If memory runs out, the rows stay as they were.
     pub fn push(&mut self, row: &[T]) -> Result<(), AllocError>
         ensures ok { OnOk result (self.new ≡ self.old ++ row.now ∷ []) }
         ensures err { OnErr result (self.new ≡ self.old) }
@@ -77,7 +77,7 @@ impl<T: Copy> Rows<T> {
         }
     }
 
-    /// Lets the items at places `i` and `j` of row `k` change places.
+    /// Swaps the items at places `i` and `j` of row `k`.
     pub fn swap(&mut self, k: usize, i: usize, j: usize)
         requires row { k < length self.old }
         requires first { i < length (slice_index_or self.old k []) }
