@@ -1,8 +1,8 @@
 -- A part of one of two texts that go out one after the other.
-use Rattle.std.proofs.Common.{◌≢◌, ◌≤◌, ℕ, List, [], ◌∷◌, ◌++◌, Option, Result, Ok, Err, refl, sym, ap, ◌∙◌, append_assoc, arith}
+use Rattle.std.proofs.Common.{◌≢◌, ℕ, List, [], ◌∷◌, ◌++◌, Option, refl, sym, ap, ◌∙◌, append_assoc}
 use Rattle.std.specs.Io.KnownBytes.{Appends}
-use Rattle.std.proofs.KnownBytes.{Appends-nil, Appends-trans}
-use Rattle.edge_core.specs.Outside.{SinkState, HasCause, AppendsPart, Sends}
+use Rattle.std.proofs.KnownBytes.{Appends-trans}
+use Rattle.edge_core.specs.Outside.{AppendsPart}
 
 -- a longer list is no more empty
 longer : (a b : List ℕ) → a ≢ [] → a ++ b ≢ []

@@ -23,6 +23,6 @@ Holds old new name bytes = (other : List ℕ) → new other ≡ (if bytes_eq nam
 abbrev pub bytes_at : List HeldFile → ℕ → Option (List ℕ)
 bytes_at files i = option_map (λ file. file.bytes.items) (slice_get files i)
 
--- the bytes of the file at a place, and none where there is no place or no file
+-- the bytes of the file at a place, and none without a place or a file
 abbrev pub bytes_of_place : List HeldFile → Option ℕ → List ℕ
 bytes_of_place files place = unwrap_or (option_and_then (bytes_at files) place) []

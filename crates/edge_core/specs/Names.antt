@@ -1,7 +1,7 @@
--- The names that the calls of a shelf leave behind. No code reads them.
+-- The names that the calls of a shelf were given. No code reads them.
 use Rattle.std.specs.Prelude.{ℕ, List, [], ◌∷◌, ◌++◌, Option, None, Some}
-use Rattle.edge_core.specs.declared.names.Event.{Event}
-use Rattle.edge_core.specs.declared.names.Event.TheVariants.{Opened, NotOpened, NotRead, Closed}
+use Rattle.edge_core.specs.declared.name_note.Event.{Event}
+use Rattle.edge_core.specs.declared.name_note.Event.TheVariants.{Opened, NotOpened, NotRead, Closed}
 
 pub record Names : Type 0 where
   -- the names that `open` was asked for, in order

@@ -6,18 +6,18 @@ use Rattle.std.specs.Io.KnownBytes.{Appends}
 abbrev pub Files : Type 0
 Files = List ℕ → Option (List ℕ)
 
--- the bytes of a file, and none where nothing is held under its name
+-- the bytes of a file, and none if nothing is held under its name
 abbrev pub bytes_of : Files → List ℕ → List ℕ
 bytes_of files name = unwrap_or (files name) []
 
 pub record ShelfState : Type 0 where
-  -- what it holds, none where it doesn't tell
+  -- what it holds, none if it does not tell
   pub held : Option Files
   -- which names may be opened
   pub may_open : List ℕ → Bool
   -- the name of the open file
   pub opened : Option (List ℕ)
-  -- what is left of the open file, none where it doesn't tell
+  -- what is left of the open file, none if it does not tell
   pub left : Option (List ℕ)
   -- how many bytes were handed out since the last open
   pub taken : ℕ
@@ -29,7 +29,7 @@ pub record ShelfState : Type 0 where
   pub asked : List (List ℕ)
 
 pub record SinkState : Type 0 where
-  -- the bytes so far, none where it doesn't tell
+  -- the bytes so far, none if it does not tell
   pub written : Option (List ℕ)
   -- the count of faults
   pub faults : ℕ
@@ -38,15 +38,15 @@ pub record SinkState : Type 0 where
 abbrev pub last_count : ℕ
 last_count = 2 ^ 64 - 1
 
--- one more, but a count stands still at its last value
+-- one more, but a count stays at its last value
 abbrev pub one_more : ℕ → ℕ
 one_more count = min (count + 1) last_count
 
--- the count rose, or stands at its last value
+-- the count rose, or is at its last value
 abbrev pub Rose : ℕ → ℕ → Type 0
 Rose before now = one_more before ≤ now
 
--- a fault comes only where the count rose, and the count never falls
+-- a fault comes only if the count rose, and the count never falls
 pub record HasCause {T E : Type 0} (before now : ℕ) (result : Result T E) : Type 0 where
   pub later : before ≤ now
   pub failed : OnErr result (Rose before now)
@@ -56,7 +56,7 @@ pub record KeepsHeld (old new : ShelfState) : Type 0 where
   pub files : new.held ≡ old.held
   pub names : new.may_open ≡ old.may_open
 
--- where the shelf tells, the held bytes of this name are left
+-- if the shelf tells, the held bytes of this name are left
 abbrev pub Begins : Option Files → List ℕ → Option (List ℕ) → Type 0
 Begins held name left = IfSome held (λ files. left ≡ Some (bytes_of files name))
 
@@ -68,7 +68,7 @@ pub record AppendsPart (old new : Option (List ℕ)) (bytes : List ℕ) : Type 0
   pub unsent : rest ≢ []
   pub went : Appends old new front
 
--- the bytes went out whole, or at an error a part of them where the count rose
+-- the bytes went out whole; or the count rose, and a part of them went out
 pub record Sends {T E : Type 0} (old new : SinkState) (bytes : List ℕ) (result : Result T E) : Type 0 where
   pub whole : OnOk result (Appends old.written new.written bytes)
   pub part : OnErr result (AppendsPart old.written new.written bytes)

@@ -2,7 +2,7 @@
 ghost use Rattle.std.specs.Prelude.{◌≡◌, [], None, true, if◌then◌else◌, is_some};
 ghost use Rattle.edge_core.specs.Outside.{ShelfState};
 
-use crate::names::{Event, NameNote};
+use crate::name_note::{Event, NameNote};
 use crate::{Failed, Shelf};
 use std::fs;
 use std::io::Read;
@@ -13,8 +13,8 @@ const PIECE: usize = 65_536;
 
 /// The files that std opens by their paths. It tells nothing of what they hold.
 ///
-/// This is trusted, and looked at by a test alone: that the file of the name is the one that is opened, and
-/// that its bytes are those that are handed out. What its state says of names is what its own calls note.
+/// Trusted, and only tested: that the file of the name is the one that is opened, and that its bytes are
+/// those that are handed out. Its state says of names what its own calls note.
 #[derive(Drop)]
 pub struct FileShelf<'a, R: Files> {
     rt: &'a R,

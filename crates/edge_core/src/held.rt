@@ -67,7 +67,7 @@ fn copy_next(bytes: &[u8], taken: usize, buf: &mut [u8]) -> usize
     copy_front(&bytes[taken..], buf)
 }
 
-// Copies the next bytes of the file at a place. Where there is none, the file is empty.
+// Copies the next bytes of the file at a place. Without such a file it copies nothing.
 pub(crate) fn copy_next_at(
     files: &[HeldFile],
     place: Option<usize>,

@@ -1,4 +1,4 @@
-//! A shelf in memory, whose calls fail where they are told to.
+//! A shelf in memory, whose calls fail when they are told to.
 ghost use Rattle.std.specs.Prelude.{◌≡◌, ◌+◌, ◌++◌, [], ◌∷◌, None, Some, drop, OnOk, OnErr, IfOk, IsErr, is_ok, Contains, ◌⊎◌, if◌then◌else◌, unwrap_or};
 ghost use Rattle.std.specs.Result.{result_ok};
 ghost use Rattle.std.specs.Io.{ReadsAtMost};
@@ -6,13 +6,13 @@ ghost use Rattle.std.specs.Io.KnownBytes.{ReadConsumes};
 ghost use Rattle.edge_core.specs.Outside.{KeepsHeld, Begins, HasCause, one_more};
 
 use crate::held::{HeldFile, copy_next_at, place_of, put_first};
-use crate::names::{Event, NameNote};
+use crate::name_note::{Event, NameNote};
 use crate::{Failed, Shelf};
 use std::alloc::{AllocError, Global};
 
 /// Files in memory. It tells what they hold.
 ///
-/// One count, from 1, runs over the calls of `open` and `read`. At its last value it stands still.
+/// The calls of `open` and `read` are counted together, from 1. The count stays at its last value.
 #[derive(Drop)]
 pub struct MemShelf {
     alloc: Global,
@@ -70,7 +70,7 @@ impl MemShelf {
         Ok(())
     }
 
-    /// Lets the call of this number fail, of the calls of `open` and `read`.
+    /// Makes the call of this number fail, of the calls of `open` and `read`.
     pub fn fail_at(&mut self, call: u64) -> Result<(), AllocError>
         ensures listed { OnOk result (listed self.new ≡ listed self.old ++ call ∷ []) }
         ensures err { OnErr result (listed self.new ≡ listed self.old) }
@@ -87,7 +87,7 @@ impl Shelf for MemShelf {
 
     ghost state = { mem_shelf_state };
 
-    // The clauses of the trait, and that it fails exactly where it is told to or the name isn't held.
+    // The clauses of the trait, and that it fails exactly when it is told to or the name is not held.
     fn open(&mut self, name: &str) -> Result<(), Failed>
         ensures held { KeepsHeld (mem_shelf_state self.old) (mem_shelf_state self.new) }
         ensures opened { (mem_shelf_state self.new).opened ≡ (if is_ok result then Some name.now else None) }
@@ -119,7 +119,7 @@ impl Shelf for MemShelf {
         Err(Failed)
     }
 
-    // The clauses of the trait, and that it fails exactly where it is told to.
+    // The clauses of the trait, and that it fails exactly when it is told to.
     fn read(&mut self, buf: &mut [u8]) -> Result<usize, Failed>
         ensures held { KeepsHeld (mem_shelf_state self.old) (mem_shelf_state self.new) }
         ensures opened { (mem_shelf_state self.new).opened ≡ (mem_shelf_state self.old).opened }

@@ -1,4 +1,4 @@
-//! A sink in memory, whose writes fail where they are told to.
+//! A sink in memory, whose writes fail when they are told to.
 ghost use Rattle.std.specs.Prelude.{◌≡◌, ◌<◌, ◌++◌, [], ◌∷◌, length, OnOk, OnErr, IfOk, IsErr, is_ok, Contains, ◌⊎◌, if◌then◌else◌};
 ghost use Rattle.std.specs.Io.KnownBytes.{WriteAppends};
 ghost use Rattle.edge_core.specs.Outside.{HasCause, one_more};
@@ -8,7 +8,7 @@ use std::alloc::{AllocError, Global};
 
 /// Bytes in memory. It tells them.
 ///
-/// Its writes have the numbers 1, 2 and so on. At the last value the count stands still.
+/// Its writes are counted from 1. The count stays at its last value.
 #[derive(Drop)]
 pub struct MemSink {
     bytes: Vec<u8>,
@@ -36,7 +36,7 @@ impl MemSink {
         }
     }
 
-    /// Lets the write of this number fail.
+    /// Makes the write of this number fail.
     pub fn fail_at(&mut self, call: u64) -> Result<(), AllocError>
         ensures listed { OnOk result (listed_writes self.new ≡ listed_writes self.old ++ call ∷ []) }
         ensures err { OnErr result (listed_writes self.new ≡ listed_writes self.old) }
@@ -60,7 +60,7 @@ impl Sink for MemSink {
 
     ghost state = { mem_sink_state };
 
-    // The clauses of the trait, and that it fails exactly where it is told to or finds no memory.
+    // The clauses of the trait, and that it fails exactly when it is told to or memory runs out.
     fn write(&mut self, piece: &[u8]) -> Result<usize, Failed>
         ensures whole { IfOk result (λ n. n ≡ length piece.now) }
         ensures bytes { WriteAppends (mem_sink_state self.old).written (mem_sink_state self.new).written result piece.now }

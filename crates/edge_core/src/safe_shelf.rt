@@ -2,13 +2,13 @@
 ghost use Rattle.std.specs.Prelude.{◌≡◌, [], None, OnOk, OnErr};
 
 use crate::held::{HeldFile, copy_next_at, place_of, put_first};
-use crate::names::{Event, NameNote};
+use crate::name_note::{Event, NameNote};
 use crate::{Failed, Shelf};
 use std::alloc::{AllocError, Global};
 
-/// Files in memory, of which every call answers Ok. It tells what they hold.
+/// Files in memory, whose calls all return Ok. It tells what they hold.
 ///
-/// A file that it doesn't hold is read as an empty one. Its count of faults is 0.
+/// A file that it does not hold is read as an empty one. Its count of faults is 0.
 #[derive(Drop)]
 pub struct SafeShelf {
     alloc: Global,

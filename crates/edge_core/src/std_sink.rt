@@ -7,8 +7,8 @@ use std::io::Write;
 
 /// A writer of std, such as the standard output. It tells nothing of what was written.
 ///
-/// To take none of some bytes is counted as a fault, since a caller could try forever. That the bytes
-/// which were taken arrive is trusted, and looked at by a test alone.
+/// A write that takes none of some bytes is counted as a fault, since a caller could try forever. That the
+/// bytes which were taken arrive is trusted, and only tested.
 #[derive(Drop)]
 pub struct StdSink<W: Write + Drop> {
     inner: W,

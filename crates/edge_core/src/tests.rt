@@ -1,4 +1,4 @@
-//! What no clause says: what the system's files and outputs give and take, and that memory is there.
+//! What no clause says: what the system's files and outputs give and take, and that calls return no fault with ample memory.
 use super::*;
 use std::fs;
 use std::io::{self, Write};
@@ -102,5 +102,32 @@ fn memory_holds_what_was_put_there(rt: HostRuntime) -> Result<(), Fail> {
     assert_eq!(rt; put_all(&mut sink, b"two"), Err(Failed));
     assert_eq!(rt; put_all(&mut sink, b"three"), Ok(()));
     assert_eq!(rt; sink.bytes(), b"onethree".as_slice());
+    Ok(())
+}
+
+#[test]
+fn a_file_has_at_most_64_mebibytes(rt: HostRuntime) -> Result<(), Fail> {
+    let longer = Vec::from_elem(rt.alloc(), 7u8, 67_108_865)?;
+    let most = &longer.as_slice()[1..];
+    let mut shelf = MemShelf::new(rt.alloc());
+    shelf.add("most", most)?;
+    shelf.add("longer", longer.as_slice())?;
+    for (name, want) in [("longer", Err(LoadFault::TooLong)), ("most", Ok(most))] {
+        let got = load(rt.alloc(), &mut shelf, name);
+        assert!(rt; is_same(&got, want), "{name}");
+    }
+    Ok(())
+}
+
+#[test]
+fn a_late_fault_is_a_fault(rt: HostRuntime) -> Result<(), Fail> {
+    let pieces = Vec::from_elem(rt.alloc(), 7u8, 200_000)?;
+    let mut shelf = MemShelf::new(rt.alloc());
+    shelf.add("pieces", pieces.as_slice())?;
+    shelf.fail_at(4)?;
+    for want in [Err(LoadFault::Read), Ok(pieces.as_slice())] {
+        let got = load(rt.alloc(), &mut shelf, "pieces");
+        assert!(rt; is_same(&got, want));
+    }
     Ok(())
 }

@@ -1,5 +1,5 @@
 -- What one more digit does to a mantissa.
-use Rattle.std.proofs.Common.{◌≡◌, ◌≢◌, inl, inr, ℕ, ◌+◌, ◌*◌, ◌%◌, ◌^◌, ◌<◌, ◌≤◌, Bool, true, false, not, refl, sym, ap, ◌∙◌, arith}
+use Rattle.std.proofs.Common.{◌≡◌, ◌≢◌, inl, inr, ℕ, ◌+◌, ◌*◌, ◌%◌, ◌^◌, ◌<◌, ◌≤◌, Bool, true, false, sym, ap, ◌∙◌, arith}
 use Rattle.std.proofs.lemmas.Bool.{cases_Bool}
 use Rattle.std.proofs.lemmas.Nat.{mod-mul-add}
 use Rattle.fixed_core.specs.declared.mantissa.Mantissa.{Mantissa}
@@ -52,7 +52,3 @@ mantissa-ends n m some h =
         | inr small ↦ absurd (some (small, sym (h.known small).0 ∙ none.0))
       ]
     ]
-
-pub not_true : (b : Bool) → not b ≡ true → b ≡ false
-not_true true h = sym h
-not_true false h = refl

@@ -3,12 +3,12 @@ use Rattle.std.specs.Prelude.{◌≡◌, ◌≢◌, ℕ, ◌≤◌, List, [], �
 use Rattle.std.specs.Str.Parse.{AllDigits}
 use Rattle.fixed_core.specs.Spelling.{sign_text}
 
--- one digit or more, of which the first is no zero unless it stands alone
+-- one digit or more, with a zero in front only if it is the one digit
 abbrev pub IsWholePart : List ℕ → Type 0
 IsWholePart [] = ⊥
 IsWholePart (d ∷ ds) = AllDigits 10 (d ∷ ds) × (d ≡ 48 → ds ≡ [])
 
--- a point and digits, or nothing where there are none
+-- a point and digits, or nothing without digits
 abbrev pub point_text : List ℕ → List ℕ
 point_text [] = []
 point_text (d ∷ ds) = 46 ∷ d ∷ ds

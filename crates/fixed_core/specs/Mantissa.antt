@@ -2,7 +2,7 @@
 use Rattle.std.specs.Prelude.{◌≡◌, ◌≢◌, ◌⊎◌, ℕ, ◌*◌, ◌%◌, ◌^◌, ◌<◌, ◌≤◌, true, false}
 use Rattle.fixed_core.specs.declared.mantissa.Mantissa.{Mantissa}
 
--- n is `head` with zeros at its end; `head` ends in no zero, and is known where it is below 10^37
+-- n is `head` with zeros at its end; `head` ends in no zero, and is known if it is below 10^37
 pub record IsMantissa (n : ℕ) (m : Mantissa) : Type 0 where
   pub head : ℕ
   pub same : n ≡ head * 10 ^ m.zeros

@@ -29,7 +29,7 @@ impl Model for Fixed {
 }
 
 impl Fixed {
-    /// The number of so many units of 10^-18, if it is not over 10^18 in absolute value. Takes no
+    /// The number of so many units of 10^-18; None exactly if its absolute value is over 10^18. Takes no
     /// memory.
     pub fn of(units: i128) -> Option<Fixed>
         ensures value { IfSome result (λ value. value ≡ units) }
@@ -79,7 +79,7 @@ pub fn with_sign(negative: bool, units: u128) -> Fixed
     }
 }
 
-/// Whether `a` is at least `b`.
+/// Returns whether `a` is at least `b`.
 pub fn at_least(a: Fixed, b: Fixed) -> bool
     ensures { IsTrue result ↔ (b ≤ℤ a) }
 {

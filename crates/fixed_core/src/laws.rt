@@ -7,8 +7,7 @@ ghost use Rattle.fixed_core.specs.Spelling.{spelling};
 ghost use Rattle.fixed_core.specs.Spells.{Spells};
 ghost use Rattle.fixed_core.specs.Value.{fixed_of};
 
-/// A text spells the numeral that is computed of it and no other; where none is computed, it spells
-/// none.
+/// A text spells the numeral that is computed from it, and no other.
 pub fn computed_numeral_is_the_spelled_one(text: &str)
     ensures { (n : Numeral) → (numeral_of text.now ≡ Some n) ↔ Spells text.now n }
 {}

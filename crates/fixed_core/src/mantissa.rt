@@ -55,7 +55,7 @@ pub fn stripped(number: u64) -> Mantissa
     }
 }
 
-// The number of the digits, or `MOST_EXPONENT` where it is greater.
+// The number of the digits, capped at `MOST_EXPONENT`.
 pub fn capped_value(digits: &[u8]) -> u128
     requires { AllDigits 10 digits.now }
     ensures { result ≡ min (digits_value 10 digits.now) MOST_EXPONENT }

@@ -98,7 +98,7 @@ fn exponent_parts(text: &[u8]) -> Option<(bool, &[u8])>
     }
 }
 
-// The parts of a number text; none where the text spells no numeral.
+// The parts of a number text, or none if the text spells no numeral.
 pub fn parts_of(text: &[u8]) -> Option<Parts<'_>>
     ensures value { option_map numeral_in result ≡ numeral_of text.now }
     ensures whole { IfSome result (λ p. AllDigits 10 p.whole.now) }

@@ -77,7 +77,7 @@ fn put_signed(negative: bool, units: u128, out: &mut Vec<u8>) -> Result<(), Allo
 
 /// Appends the one spelling of a number: `-` if it is negative, the whole part with no needless
 /// zeros, and, if the fraction is not 0, a point and its digits without zeros at the end. That text
-/// reads as the number. Want of memory leaves a prefix of it.
+/// reads as the number. If memory runs out, a prefix of it was appended.
 pub fn put_fixed(value: Fixed, out: &mut Vec<u8>) -> Result<(), AllocError>
     ensures text { Puts out.old.items out.new.items result (spelling value) }
     ensures reads { fixed_of (spelling value) ≡ Ok value }

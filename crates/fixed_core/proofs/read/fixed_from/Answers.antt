@@ -1,7 +1,8 @@
 use Rattle.std.proofs.Common.{◌≡◌, ◌≢◌, ◌≤◌, ◌<◌, ◌^◌, ◌+◌, ◌*◌, ◌∙◌, sym, ap, arith, true≢false, false, if◌then◌else◌}
 use Rattle.std.proofs.lemmas.Nat.{mul-le}
 use Rattle.fixed_core.proofs.PowerFacts.{pow_least}
-use Rattle.fixed_core.proofs.MantissaFacts.{mantissa-ends, not_true}
+use Rattle.std.proofs.lemmas.Bool.{not-true}
+use Rattle.fixed_core.proofs.MantissaFacts.{mantissa-ends}
 use Rattle.fixed_core.proofs.ExponentFacts.{digits-gap, moves-right, near_enough, farther}
 use Rattle.fixed_core.proofs.QuotientFacts.{quotient-ok, quotient-range, quotient-digits, quotient-zero}
 use Rattle.fixed_core.proofs.read.fixed_from.Goals as goal
@@ -9,7 +10,7 @@ use Rattle.fixed_core.proofs.read.fixed_from.Goals.{else-not-m-via-then-not-m+el
 
 pub returns-then-m-eq0 : goal.returns-then-m-eq0
 returns-then-m-eq0 c = λ n e h capped.
-    let small : c.args.m.large ≡ false = not_true c.args.m.large c.if-not-m.true in
+    let small : c.args.m.large ≡ false = not-true c.args.m.large c.if-not-m.true in
     let none : h.head ≡ 0 = (h.known small).0 ∙ c.if-m-eq0.true in
     let nothing : n ≡ 0 = h.same ∙ ap (λ k. k * 10 ^ c.args.m.zeros) none ∙ omega arith in
     rw (nothing, c.with_sign.ensures) (sym (quotient-zero c.args.negative (18 + (if c.args.lowers then 0 else e)) (c.args.scale + (if c.args.lowers then e else 0))))

@@ -1,4 +1,4 @@
-//! The names that a shelf's calls leave behind. Only clauses read them.
+//! A note of the names that the calls of a shelf were given. Only contracts read it.
 ghost use Rattle.std.specs.Prelude.{◌≡◌};
 ghost use Rattle.std.specs.Borrow.{ftrue};
 ghost use Rattle.edge_core.specs.Names.{Names, no_names, names_after};
@@ -18,7 +18,7 @@ pub(crate) enum Event<'a> {
     Closed,
 }
 
-/// It takes no memory, and its methods do nothing at run time.
+/// The names so far. A note has no size, and its methods do nothing at run time.
 #[derive(Drop)]
 pub(crate) struct NameNote {
     ghost names: { Names },

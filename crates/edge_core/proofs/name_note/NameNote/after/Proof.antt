@@ -26,13 +26,13 @@ use denote.Triple.Spec.{Meets, triple_of}
 use denote.Triple.Table.{entered}
 use denote.Triple.Walked.{says, Stays, stay_dropped, walk_of, ends_at, walk_Meets, Goes-dropped}
 use Rattle.edge_core.proofs.Walks.{none, none_made}
-use Rattle.edge_core.specs.contracts.names.NameNote as NameNote
-use Rattle.edge_core.specs.contracts.names.Event as Event
+use Rattle.edge_core.specs.contracts.name_note.NameNote as NameNote
+use Rattle.edge_core.specs.contracts.name_note.Event as Event
 use Rattle.edge_core.specs.Names.{names_after}
-use Rattle.edge_core.specs.contracts.names.NameNote.after as F
-use Rattle.edge_core.specs.contracts.names.NameNote.after.Key.{name as #self}
-use Rattle.edge_core.proofs.names.NameNote.after.Statement as stated
-use Rattle.edge_core.proofs.names.NameNote.after.Code as code
+use Rattle.edge_core.specs.contracts.name_note.NameNote.after as F
+use Rattle.edge_core.specs.contracts.name_note.NameNote.after.Key.{name as #self}
+use Rattle.edge_core.proofs.name_note.NameNote.after.Statement as stated
+use Rattle.edge_core.proofs.name_note.NameNote.after.Code as code
 
 abbrev function : Fn
 function = code.function

@@ -24,12 +24,12 @@ use denote.Triple.Spec.{Meets, triple_of}
 use denote.Triple.Table.{entered}
 use denote.Triple.Walked.{says, Stays, walk_of, ends_at, walk_Meets}
 use Rattle.edge_core.proofs.Walks.{none, none_made}
-use Rattle.edge_core.specs.contracts.names.NameNote as NameNote
+use Rattle.edge_core.specs.contracts.name_note.NameNote as NameNote
 use Rattle.edge_core.specs.Names.{no_names}
-use Rattle.edge_core.specs.contracts.names.NameNote.new as F
-use Rattle.edge_core.specs.contracts.names.NameNote.new.Key.{name as #self}
-use Rattle.edge_core.proofs.names.NameNote.new.Statement as stated
-use Rattle.edge_core.proofs.names.NameNote.new.Code as code
+use Rattle.edge_core.specs.contracts.name_note.NameNote.new as F
+use Rattle.edge_core.specs.contracts.name_note.NameNote.new.Key.{name as #self}
+use Rattle.edge_core.proofs.name_note.NameNote.new.Statement as stated
+use Rattle.edge_core.proofs.name_note.NameNote.new.Code as code
 
 abbrev function : Fn
 function = code.function
