@@ -1,52 +1,154 @@
 -- The entries of a mapping as they are found by key.
-use Rattle.std.proofs.Common.{◌≡◌, ℕ, Bool, true, false, cond, ◌||◌, List, [], ◌∷◌, ◌++◌, map, refl, ap, sym, ◌∙◌, Option, Some, None}
-use Rattle.std.specs.Prelude.{string_bytes, is_some, not, ◌&&◌}
-use Rattle.std.specs.List.{list_any, IsDistinct, AllByRecursion}
+use Rattle.std.proofs.Common.{◌≡◌, ℕ, suc, ◌<◌, Bool, true, false, cond, ◌||◌, List, [], ◌∷◌, ◌++◌, map, length, get_or, refl, ap, sym, ◌∙◌, arith, Option, Some, None, ◌⊎◌, inl, inr, ⊎_elim}
+use Rattle.std.specs.Prelude.{is_some, option_map, not, ◌&&◌}
+use Rattle.std.specs.List.{list_any}
 use Rattle.std.specs.Str.{bytes_eq}
-use Rattle.std.specs.String.{string_eq}
+use Rattle.std.specs.Map.{update}
+use Rattle.std.proofs.lemmas.Slice.Eq.{bytes_eq-Decides}
+use Rattle.std.specs.Prelude.{string_bytes}
+use Rattle.std.specs.Ordering.{nat_cmp}
+use Rattle.std.specs.Cmp.Lexicographic.{slice_cmp}
+use Rattle.std.specs.String.{string_cmp}
+use Rattle.std.specs.BTreeMap.{BTreeMap, UpdatesBy}
 use Rattle.std.specs.declared.alloc.Global.{Global}
 use Rattle.std.specs.declared.string.String.{String}
-use Rattle.std.specs.Map.{lookup, keys_of}
-use Rattle.std.proofs.lemmas.List.{map-append}
-use Rattle.yaml_core.specs.Measured.{Measured, find_entry, add_entry}
-use Rattle.yaml_core.specs.Entries.{Held, entry_of}
+use Rattle.std.proofs.lemmas.Map.Text.{btree_map_updates_text}
+use Rattle.yaml_core.specs.Entries.{place_of, IsIndexed}
+use Rattle.yaml_core.specs.Measured.{Measured, Entry, find_entry, add_entry}
 use Rattle.yaml_core.specs.Keys.{are_distinct}
 
-abbrev pub same_key : String Global → String Global → Bool
-same_key k q = bytes_eq (string_bytes k) (string_bytes q)
+abbrev key_in : List ℕ → List Entry → Bool
+key_in key es = list_any (λ e. bytes_eq key e.0) es
 
-is_some-cond : {A : Type 0} (b : Bool) (a : A) (o : Option A) → is_some (cond b (Some a) o) ≡ (b || is_some o)
-is_some-cond true a o = refl
-is_some-cond false a o = refl
+is_some-place : (b : Bool) (o : Option ℕ) → is_some (cond b (Some 0) (option_map (λ n. suc n) o)) ≡ (b || is_some o)
+is_some-place true o = refl
+is_some-place false None = refl
+is_some-place false (Some n) = refl
 
--- a key is among the entries where a look-up finds it
-has_key-map : (k : String Global) (es : List Held) → list_any (λ e. bytes_eq (string_bytes k) e.0) (map entry_of es) ≡ is_some (lookup (same_key k) es)
-has_key-map k [] = refl
-has_key-map k (e ∷ es) = ap (λ b. same_key k e.0 || b) (has_key-map k es) ∙ sym (is_some-cond (same_key k e.0) e.1 (lookup (same_key k) es))
+-- a key is among the entries if it has a place
+pub key_in-place : (key : List ℕ) (es : List Entry) → key_in key es ≡ is_some (place_of key es)
+key_in-place key [] = refl
+key_in-place key (e ∷ es) = ap (λ b. bytes_eq key e.0 || b) (key_in-place key es) ∙ sym (is_some-place (bytes_eq key e.0) (place_of key es))
 
 -- a new key goes last
-pub add_entry-new : (k : String Global) (m : Measured) (es : List Held) → lookup (same_key k) es ≡ None
-    → add_entry (map entry_of es) (string_bytes k) m ≡ Some (map entry_of (es ++ (k, m) ∷ []))
-add_entry-new k m es none = rw (has_key-map k es, none, map-append entry_of) refl
+pub add_entry-new : (key : List ℕ) (m : Measured) (es : List Entry) → place_of key es ≡ None → add_entry es key m ≡ Some (es ++ (key, m) ∷ [])
+add_entry-new key m es none = rw (key_in-place key es, none) refl
 
 -- a key that is there makes no entry
-pub add_entry-there : (k : String Global) (m n : Measured) (es : List Held) → lookup (same_key k) es ≡ Some n → add_entry (map entry_of es) (string_bytes k) m ≡ None
-add_entry-there k m n es some = rw (has_key-map k es, some) refl
+pub add_entry-there : (key : List ℕ) (m : Measured) (es : List Entry) (n : ℕ) → place_of key es ≡ Some n → add_entry es key m ≡ None
+add_entry-there key m es n some = rw (key_in-place key es, some) refl
 
--- the entry under a key is the one that a look-up finds
-pub find_entry-map : (key : List ℕ) (es : List Held) → find_entry key (map entry_of es) ≡ lookup (λ q. bytes_eq key (string_bytes q)) es
-find_entry-map key [] = refl
-find_entry-map key (e ∷ es) = ap (λ o. cond (bytes_eq key (string_bytes e.0)) (Some e.1) o) (find_entry-map key es)
+-- ---- places
 
-abbrev keys_in : List Held → List (List ℕ)
-keys_in es = map (λ e. e.0) (map entry_of es)
+place-none : (b : Bool) (o : Option ℕ) → cond b (Some 0) (option_map (λ n. suc n) o) ≡ None → (b ≡ false) × (o ≡ None)
+place-none true o e = absurd (cc)
+place-none false None e = (refl, refl)
+place-none false (Some n) e = absurd (cc)
 
-is-new : (k : String Global) (es : List Held) → AllByRecursion (λ q. string_eq k q ≡ false) (keys_of es) → list_any (bytes_eq (string_bytes k)) (keys_in es) ≡ false
-is-new k [] none = refl
-is-new k (e ∷ es) none = λ i. none.0 i || is-new k es none.1 i
+abbrev Later : Bool → Option ℕ → ℕ → Type 0
+Later b o n = ((b ≡ true) × (n ≡ 0)) ⊎ ((m : ℕ) × (b ≡ false) × (o ≡ Some m) × (n ≡ suc m))
 
--- keys that the map tells apart are distinct
-pub are_distinct-keys : (es : List Held) → IsDistinct string_eq (keys_of es) → are_distinct (keys_in es) ≡ true
-unfolding IsDistinct
-are_distinct-keys [] d = refl
-are_distinct-keys (e ∷ es) d = λ i. not (is-new e.0 es d.0 i) && are_distinct-keys es d.1 i
+place-some : (b : Bool) (o : Option ℕ) (n : ℕ) → cond b (Some 0) (option_map (λ n. suc n) o) ≡ Some n → Later b o n
+place-some true o n e = let same : 0 ≡ n = cc in inl (refl, sym same)
+place-some false None n e = absurd (cc)
+place-some false (Some m) n e = let same : suc m ≡ n = cc in inr (m, refl, refl, sym same)
+
+-- the entry at its place is the one that is found
+pub find-at : (key : List ℕ) (es : List Entry) (n : ℕ) (other : Entry) → place_of key es ≡ Some n → (n < length es) × (find_entry key es ≡ Some (get_or es n other).1)
+find-at key [] n other e = absurd (cc)
+find-at key (x ∷ es) n other e =
+    ⊎_elim (λ (here : (bytes_eq key x.0 ≡ true) × (n ≡ 0)). (omega (arith, here.1), rw (here.0, here.1) refl))
+    (λ (there : (m : ℕ) × (bytes_eq key x.0 ≡ false) × (place_of key es ≡ Some m) × (n ≡ suc m)).
+    let h = find-at key es there.0 other there.2 in (omega (arith, h.0, there.3), rw (there.1, there.3) (h.1)))
+    (place-some (bytes_eq key x.0) (place_of key es) n e)
+
+pub find-none : (key : List ℕ) (es : List Entry) → place_of key es ≡ None → find_entry key es ≡ None
+find-none key [] e = refl
+find-none key (x ∷ es) e = let h = place-none (bytes_eq key x.0) (place_of key es) e in rw h.0 (find-none key es h.1)
+
+-- ---- one entry more
+
+map-cond : (b : Bool) (n : ℕ) → option_map (λ n. suc n) (cond b (Some n) None) ≡ cond b (Some (suc n)) None
+map-cond true n = refl
+map-cond false n = refl
+
+place-new : (key : List ℕ) (es : List Entry) (e : Entry) → place_of key es ≡ None → place_of key (es ++ e ∷ []) ≡ cond (bytes_eq key e.0) (Some (length es)) None
+place-new key [] e none = refl
+place-new key (x ∷ es) e none =
+    let h = place-none (bytes_eq key x.0) (place_of key es) none in
+    rw (h.0, place-new key es e h.1) (map-cond (bytes_eq key e.0) (length es))
+
+place-there : (key : List ℕ) (es : List Entry) (e : Entry) (n : ℕ) → place_of key es ≡ Some n → place_of key (es ++ e ∷ []) ≡ Some n
+place-there key [] e n some = absurd (cc)
+place-there key (x ∷ es) e n some =
+    ⊎_elim (λ (here : (bytes_eq key x.0 ≡ true) × (n ≡ 0)). rw (here.0, here.1) refl)
+    (λ (there : (m : ℕ) × (bytes_eq key x.0 ≡ false) × (place_of key es ≡ Some m) × (n ≡ suc m)).
+    rw (there.1, place-there key es e there.0 there.2, there.3) refl)
+    (place-some (bytes_eq key x.0) (place_of key es) n some)
+
+by_bool : {P : Type 0} (b : Bool) → (b ≡ true → P) → (b ≡ false → P) → P
+by_bool true t f = t refl
+by_bool false t f = f refl
+
+by_place : {P : Type 0} (o : Option ℕ) → (o ≡ None → P) → ((n : ℕ) → o ≡ Some n → P) → P
+by_place None t f = t refl
+by_place (Some n) t f = f n refl
+
+same-bytes : (a : List ℕ) → bytes_eq a a ≡ true
+same-bytes a = (bytes_eq-Decides a a).1 refl
+
+apart : (a b : List ℕ) → bytes_eq a b ≡ false → bytes_eq b a ≡ false
+apart a b h = by_bool (bytes_eq b a)
+    (λ t. let same : b ≡ a = (bytes_eq-Decides b a).0 t in let hit : bytes_eq a b ≡ true = (bytes_eq-Decides a b).1 (sym same) in absurd (cc))
+    (λ f. f)
+
+-- the places with a new key at the end
+pub place-more : (key q : List ℕ) (m : Measured) (es : List Entry) → place_of key es ≡ None
+    → update bytes_eq (λ k. place_of k es) key (Some (length es)) q ≡ place_of q (es ++ (key, m) ∷ [])
+place-more key q m es none = by_bool (bytes_eq key q)
+    (λ t. let same : key ≡ q = (bytes_eq-Decides key q).0 t in
+    rw t (sym (place-new q es (key, m) (ap (λ k. place_of k es) (sym same) ∙ none) ∙ rw ((bytes_eq-Decides q key).1 (sym same)) refl)))
+    (λ f. rw f (by_place (place_of q es)
+    (λ absent. absent ∙ sym (place-new q es (key, m) absent ∙ rw (apart key q f) refl))
+    (λ n there. there ∙ sym (place-there q es (key, m) n there))))
+
+or-false : (a b : Bool) → (a || b) ≡ false → (a ≡ false) × (b ≡ false)
+or-false true b e = absurd (cc)
+or-false false b e = (refl, e)
+
+abbrev keys_of : List Entry → List (List ℕ)
+keys_of es = map (λ (e : Entry). e.0) es
+
+none-more : (k : List ℕ) (es : List Entry) (e : Entry) → list_any (bytes_eq k) (keys_of es) ≡ false → bytes_eq k e.0 ≡ false → list_any (bytes_eq k) (keys_of (es ++ e ∷ [])) ≡ false
+none-more k [] e none other = rw other refl
+none-more k (x ∷ es) e none other =
+    let h = or-false (bytes_eq k x.0) (list_any (bytes_eq k) (keys_of es)) none in rw (h.0, none-more k es e h.1 other) refl
+
+and-true : (a b : Bool) → (not a && b) ≡ true → (a ≡ false) × (b ≡ true)
+and-true true b e = absurd (cc)
+and-true false b e = (refl, e)
+
+-- a new key leaves the keys distinct
+pub distinct-more : (es : List Entry) (e : Entry) → are_distinct (keys_of es) ≡ true → place_of e.0 es ≡ None → are_distinct (keys_of (es ++ e ∷ [])) ≡ true
+distinct-more [] e d none = refl
+distinct-more (x ∷ es) e d none =
+    let p = place-none (bytes_eq e.0 x.0) (place_of e.0 es) none in
+    let h = and-true (list_any (bytes_eq x.0) (keys_of es)) (are_distinct (keys_of es)) d in
+    rw (none-more x.0 es e h.0 (apart e.0 x.0 p.0), distinct-more es e h.1 p.1) refl
+
+-- ---- the map of places
+
+pub none-from : (o : Option ℕ) → is_some o ≡ false → o ≡ None
+none-from None e = refl
+none-from (Some n) e = absurd (cc)
+
+pub some-from : (o : Option ℕ) → is_some o ≡ true → (n : ℕ) × (o ≡ Some n)
+some-from None e = absurd (cc)
+some-from (Some n) e = (n, refl)
+
+pub index-more : (before after : BTreeMap (String Global) ℕ) (es : List Entry) (key : List ℕ) (m : Measured) → IsIndexed before es → place_of key es ≡ None
+    → UpdatesBy string_cmp (λ k. slice_cmp nat_cmp key (string_bytes k)) before after (Some (length es)) → IsIndexed after (es ++ (key, m) ∷ [])
+index-more before after es key m h none u = record {
+  places = λ q. btree_map_updates_text key before after (Some (length es)) u q ∙ (λ i. update bytes_eq (λ k. h.places k i) key (Some (length es)) q) ∙ place-more key q m es none;
+  distinct = distinct-more es (key, m) h.distinct none;
+}

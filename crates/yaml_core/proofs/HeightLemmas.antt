@@ -5,11 +5,11 @@ use Rattle.std.specs.List.{list_all, list_any}
 use Rattle.std.specs.Str.{bytes_eq}
 use Rattle.std.proofs.lemmas.Bool.{leb-true}
 use Rattle.std.proofs.lemmas.List.Recursion.{max_push}
-use Rattle.yaml_core.specs.declared.token.Token.{Token}
-use Rattle.yaml_core.specs.declared.token.Token.TheVariants.{Open, Plain, Quoted, Anchor, Alias}
+use Rattle.yaml_tokens.specs.declared.token.Token.{Token}
+use Rattle.yaml_tokens.specs.declared.token.Token.TheVariants.{Open, Plain, Quoted, Anchor, Alias}
 use Rattle.yaml_core.specs.Measured.{Measured, highest, Entry, add_entry, find_entry}
 use Rattle.yaml_core.specs.Reading.{Names, Reading, nothing, gives, and_then, ◌>>=◌, naming, unless_higher, node_named}
-use Rattle.yaml_core.specs.Tokens.{Line}
+use Rattle.yaml_tokens.specs.Tokens.{Line}
 use Rattle.yaml_core.specs.Tree.{Inline, Flow, after_item, items_after, closed, flow_step, flow_items, content_at, content, inline_at, inline_with, inline, if_last, inline_whole, Lines, One, Head, dash, entry, value, head, anchor_alone, indentation, is_deeper, is_deeper_or_dash, Group, groups, joined, value_by, value_of, item_by, item_at, items_of, adding, entry_after, entries_of, block_by, block_with, block, max_levels, tree}
 
 -- ---- readings

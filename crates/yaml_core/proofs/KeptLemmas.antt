@@ -1,6 +1,6 @@
 -- What is kept of nodes while they are built.
 use Rattle.std.proofs.Common.{◌≡◌, ℕ, ◌+◌, ◌≤◌, true, List, [], ◌∷◌, ◌++◌, map, refl, ap, sym, ◌∙◌, arith, Option, Some, None}
-use Rattle.std.specs.Prelude.{min, max, sum, option_map, string_bytes}
+use Rattle.std.specs.Prelude.{min, max, sum, option_map}
 use Rattle.std.proofs.lemmas.List.{map-append}
 use Rattle.std.proofs.lemmas.List.Sums.{sum_by_push}
 use Rattle.yaml_core.specs.declared.node.Node.{Node}
@@ -9,7 +9,6 @@ use Rattle.yaml_core.specs.declared.node.Pair.{Pair}
 use Rattle.yaml_core.specs.Measured.{Measured, Entry, pair, pair_of, leaf, list_node, map_node, highest}
 use Rattle.yaml_core.specs.Size.{node_count}
 use Rattle.yaml_core.specs.Keys.{are_distinct}
-use Rattle.yaml_core.specs.Entries.{Held, entry_of}
 use Rattle.yaml_core.specs.Kept.{IsKept, KeepsMore, KeepsNode, KeepsNodes, IsSound, AreSound, count_of, levels_up_to, nodes_up_to, last_u8, last_u32}
 use Rattle.yaml_core.proofs.MeasureLemmas.{count-Null, count-Scalar, count-Quoted, count-list, count-map, values_of, IsSound-Null, IsSound-Scalar, IsSound-Quoted, IsSound-list, IsSound-map}
 
@@ -101,17 +100,10 @@ keeps-item held after more ms m before kept keeps =
     rw (map-append (λ (n : Measured). n.node) ms (m ∷ []))
     (keeps-push held after more (map (λ n. n.node) ms) m.node ms m before kept.node kept.levels kept.nodes kept.sound keeps)
 
-keeps-entry : {h c k d : ℕ} (held after : Option (List Pair)) (more : Option Node) (es : List Entry) (e : Entry)
+pub keeps-entry : {h c k d : ℕ} (held after : Option (List Pair)) (more : Option Node) (es : List Entry) (e : Entry)
     → KeepsNodes held h c (map pair_of es) (values_of es) → KeepsNode more k d e.1 → KeepsMore held (option_map (λ n. pair e.0 n) more) after
     → KeepsNodes after (max h k) (min (d + c) last_u32) (map pair_of (es ++ e ∷ [])) (values_of (es ++ e ∷ []))
 keeps-entry held after more es e before kept keeps =
     rw (map-append pair_of es (e ∷ []), map-append (λ (x : Entry). x.1) es (e ∷ []))
     (keeps-push held after (option_map (λ n. pair e.0 n) more) (map pair_of es) (pair_of e) (values_of es) e.1 before
     (IsKept-map (λ n. pair e.0 n) more e.1.node kept.node) kept.levels kept.nodes kept.sound keeps)
-
-pub keeps-held : {h c k d : ℕ} (held after : Option (List Pair)) (more : Option Node) (done : List Held) (e : Held)
-    → KeepsNodes held h c (map pair_of (map entry_of done)) (values_of (map entry_of done)) → KeepsNode more k d e.1
-    → KeepsMore held (option_map (λ n. pair (string_bytes e.0) n) more) after
-    → KeepsNodes after (max h k) (min (d + c) last_u32) (map pair_of (map entry_of (done ++ e ∷ []))) (values_of (map entry_of (done ++ e ∷ [])))
-keeps-held held after more done e before kept keeps =
-    rw (map-append entry_of done (e ∷ [])) (keeps-entry held after more (map entry_of done) (entry_of e) before kept keeps)

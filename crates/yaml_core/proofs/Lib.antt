@@ -1,16 +1,9 @@
-pub mod PlainLemmas
-pub mod LexerLemmas
-pub mod LinesLemmas
-pub mod QuotesLemmas
 pub mod FaultLemmas
-pub mod NameLemmas
 pub mod HeightLemmas
 pub mod ReadLemmas
-pub mod WrittenLemmas
 pub mod WrittenTreeLemmas
-pub mod WrittenExamples
 pub mod InlineLemmas
-pub mod Walks
+pub mod WalkLemmas
 pub mod MeasureLemmas
 pub mod KeptLemmas
 pub mod EntriesLemmas

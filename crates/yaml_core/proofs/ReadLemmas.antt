@@ -8,7 +8,7 @@ use Rattle.yaml_core.specs.declared.fault.YamlFault.TheVariants.{NotUtf8, Form, 
 use Rattle.yaml_core.specs.declared.node.Node.{Node}
 use Rattle.yaml_core.specs.Measured.{Measured}
 use Rattle.yaml_core.specs.Size.{node_height}
-use Rattle.yaml_core.specs.Tokens.{Line, text_tokens}
+use Rattle.yaml_tokens.specs.Tokens.{Line, text_tokens}
 use Rattle.yaml_core.specs.Tree.{tree, text_tree, text_measured, max_levels}
 use Rattle.yaml_core.proofs.HeightLemmas.{tree-height}
 use Rattle.yaml_core.specs.Stack.{FailsAs}

@@ -16,18 +16,18 @@ use Rattle.std.proofs.lemmas.Str.Ascii.{IsAscii-from_all, IsAscii-cons, IsAscii-
 use Rattle.std.proofs.lemmas.Bool.{and_parts, cases_lt}
 use lib.Utf8.{encode, encodes, scalar, scalars}
 use Rattle.yaml_core.specs.declared.node.Node.TheVariants as node
-use Rattle.yaml_core.specs.declared.token.Token.TheVariants.{Quoted}
-use Rattle.yaml_core.specs.declared.token.Placed.{Placed}
-use Rattle.yaml_core.specs.declared.token.Before.{Before}
-use Rattle.yaml_core.specs.declared.token.Before.TheVariants as before
+use Rattle.yaml_tokens.specs.declared.token.Token.TheVariants.{Quoted}
+use Rattle.yaml_tokens.specs.declared.token.Placed.{Placed}
+use Rattle.yaml_tokens.specs.declared.token.Before.{Before}
+use Rattle.yaml_tokens.specs.declared.token.Before.TheVariants as before
 use Rattle.yaml_core.specs.Measured.{leaf}
-use Rattle.yaml_core.specs.Quotes.{double_from, in_text}
-use Rattle.yaml_core.specs.Tokens.{Line, is_refused, kept, has_mark, tokens_from, line_tokens, lines_tokens, text_tokens}
+use Rattle.yaml_tokens.specs.Quotes.{double_from, in_text}
+use Rattle.yaml_tokens.specs.Tokens.{Line, is_refused, kept, has_mark, tokens_from, line_tokens, lines_tokens, text_tokens}
 use Rattle.yaml_core.specs.Tree.{tree, text_tree, block, inline, flow_items}
 use Rattle.yaml_core.specs.Read.{reading, within_limit}
-use Rattle.yaml_core.specs.Written.{is_mark, is_control, hex_digit, hex_escape, spelled, quoted_text}
+use Rattle.yaml_tokens.specs.Written.{is_mark, is_control, hex_digit, hex_escape, spelled, quoted_text}
 use Rattle.yaml_core.proofs.MeasureLemmas.{count-Quoted}
-use Rattle.yaml_core.proofs.WrittenLemmas.{text-read}
+use Rattle.yaml_tokens.proofs.WrittenLemmas.{text-read}
 
 -- ---- no control character
 

@@ -1,8 +1,8 @@
 -- What is kept of nodes while they are built.
-use Rattle.std.specs.Prelude.{◌≡◌, ℕ, ◌-◌, ◌^◌, min, List, [], ◌∷◌, ◌++◌, map, sum, Option, Some, None}
+use Rattle.std.specs.Prelude.{◌≡◌, ◌⊎◌, ℕ, ◌<◌, ◌-◌, ◌^◌, min, List, [], ◌∷◌, ◌++◌, map, sum, Option, Some, None}
 use Rattle.yaml_core.specs.declared.node.Node.{Node}
 use Rattle.yaml_core.specs.Measured.{Measured, highest}
-use Rattle.yaml_core.specs.Size.{node_count, node_height}
+use Rattle.yaml_core.specs.Size.{node_count, node_height, most_nodes}
 use Rattle.yaml_core.specs.Keys.{HasDistinctKeys}
 
 -- it is the whole, if it is kept
@@ -16,6 +16,10 @@ KeepsMore all more None = Unit {0}
 KeepsMore (Some before) (Some a) (Some after) = after ≡ before ++ a ∷ []
 KeepsMore all more (Some after) = ⊥
 
+-- why a list with one more item is left out: one of them was, or there are too many nodes
+abbrev pub IsLeftOut : {A : Type 0} → Option (List A) → Option A → ℕ → Type 0
+IsLeftOut all more nodes = (all ≡ None) ⊎ ((more ≡ None) ⊎ (most_nodes < nodes))
+
 -- the last numbers of 8 and of 32 bits
 abbrev pub last_u8 : ℕ
 last_u8 = 2 ^ 8 - 1
@@ -23,11 +27,11 @@ last_u8 = 2 ^ 8 - 1
 abbrev pub last_u32 : ℕ
 last_u32 = 2 ^ 32 - 1
 
--- a number of levels, which stands still at its last value
+-- a number of levels, which stops at its last value
 abbrev pub levels_up_to : ℕ → ℕ
 levels_up_to n = min n last_u8
 
--- a number of nodes, which stands still at its last value
+-- a number of nodes, which stops at its last value
 abbrev pub nodes_up_to : ℕ → ℕ
 nodes_up_to n = min n last_u32
 
@@ -44,14 +48,14 @@ abbrev pub AreSound : List Measured → Type 0
 AreSound [] = Unit {0}
 AreSound (m ∷ ms) = IsSound m × AreSound ms
 
--- a value's levels, nodes and node are those of what it stands for
+-- a value's levels, nodes and node are those of what it means
 pub record KeepsNode (held : Option Node) (height count : ℕ) (m : Measured) : Type 0 where
   pub node : IsKept held m.node
   pub levels : height ≡ levels_up_to m.height
   pub nodes : count ≡ nodes_up_to (node_count m.node)
   pub sound : IsSound m
 
--- the same of nodes that stand in a list or under keys, where the whole is what is made of them
+-- the same of nodes in a list or under keys; the whole is what is made of them
 pub record KeepsNodes {A : Type 0} (held : Option A) (height count : ℕ) (whole : A) (ms : List Measured) : Type 0 where
   pub all : IsKept held whole
   pub levels : height ≡ levels_up_to (highest ms)

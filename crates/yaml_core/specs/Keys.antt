@@ -10,7 +10,7 @@ abbrev pub are_distinct : List (List ℕ) → Bool
 are_distinct [] = true
 are_distinct (k ∷ ks) = not (list_any (bytes_eq k) ks) && are_distinct ks
 
--- a node, from whether what stands in it has distinct keys
+-- a node, from whether what is in it has distinct keys
 abbrev pub keys_layer : Node-F Bool (List ℕ × Bool) → Bool
 keys_layer (Node-F.Scalar text) = true
 keys_layer (Node-F.Quoted text) = true

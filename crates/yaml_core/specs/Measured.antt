@@ -29,7 +29,7 @@ highest (m ∷ ms) = max m.height (highest ms)
 abbrev pub list_node : List Measured → Measured
 list_node ms = record { node = node.List (map (λ m. m.node) ms); height = 1 + highest ms }
 
--- a key or a name, and the node that stands under it
+-- a key or a name, and the node under it
 abbrev pub Entry : Type 0
 Entry = List ℕ × Measured
 

@@ -1,4 +1,4 @@
--- What values stand for, by what they come from.
+-- What values mean, by what they come from.
 use Rattle.std.specs.Prelude.{List, [], ◌∷◌, ◌++◌}
 use Rattle.yaml_core.specs.declared.value_note.Origin.{Origin}
 use Rattle.yaml_core.specs.declared.value_note.Origin.TheVariants as origin

@@ -4,14 +4,13 @@ use Rattle.std.specs.Str.{is_utf8}
 use Rattle.yaml_core.specs.declared.fault.YamlFault.{YamlFault}
 use Rattle.yaml_core.specs.declared.fault.YamlFault.TheVariants as fault
 use Rattle.yaml_core.specs.declared.node.Node.{Node}
-use Rattle.yaml_core.specs.declared.size.TheConstants.{MOST_NODES}
-use Rattle.yaml_core.specs.Size.{node_count}
+use Rattle.yaml_core.specs.Size.{node_count, most_nodes}
 use Rattle.yaml_core.specs.Tree.{text_tree}
 
 -- the tree, unless there is none or it has too many nodes
 abbrev pub within_limit : Option Node → Result Node YamlFault
 within_limit None = Err fault.Form
-within_limit (Some n) = if nat_le (node_count n) MOST_NODES then Ok n else Err fault.Many
+within_limit (Some n) = if nat_le (node_count n) most_nodes then Ok n else Err fault.Many
 
 -- the tree of the bytes, or the first fault that they have
 abbrev pub reading : List ℕ → Result Node YamlFault

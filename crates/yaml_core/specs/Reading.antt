@@ -1,4 +1,4 @@
--- Reading where anchors give names to nodes.
+-- Reading while anchors give names to nodes.
 use Rattle.std.specs.Prelude.{ℕ, nat_le, if◌then◌else◌, List, Option, Some, None, option_map}
 use Rattle.yaml_core.specs.Measured.{Measured, Entry, find_entry, add_entry}
 
@@ -6,7 +6,7 @@ use Rattle.yaml_core.specs.Measured.{Measured, Entry, find_entry, add_entry}
 abbrev pub Names : Type 0
 Names = List Entry
 
--- what is read where these nodes have names, and the names after it
+-- what is read when these nodes have names, and the names after it
 abbrev pub Reading : Type 0 → Type 0
 Reading A = Names → Option (A × Names)
 
@@ -29,7 +29,7 @@ abbrev pub ◌>>=◌ : {A B : Type 0} → Reading A → (A → Reading B) → Re
 abbrev pub naming : List ℕ → Measured → Reading Measured
 naming name m names = option_map (λ named. (m, named)) (add_entry names name m)
 
--- the node that was read gets a name where there is one
+-- the node that was read gets a name if there is one
 abbrev pub named_as : Option (List ℕ) → Reading Measured → Reading Measured
 named_as None read = read
 named_as (Some name) read = read >>= naming name

@@ -2,9 +2,9 @@
 ghost use Rattle.std.specs.Prelude.{◌≡◌, IfOk};
 
 use crate::node::{Node, Nodes, Pair, Pairs};
-use crate::text::Text;
 use sqlite_items::Items;
 use std::alloc::{AllocError, Global};
+use yaml_tokens::Text;
 
 /// A copy of a tree.
 #[cycle(copy)]

@@ -1,34 +1,38 @@
 //! Values under keys, found by key: the entries of a mapping, and the nodes that have names.
-ghost use Rattle.std.specs.Prelude.{◌≡◌, [], map};
+ghost use Rattle.std.specs.Prelude.{◌≡◌, [], map, true};
 ghost use Rattle.std.specs.Option.{option_copied};
-ghost use Rattle.yaml_core.specs.Entries.{entry_of};
-ghost use Rattle.yaml_core.specs.Measured.{add_entry, find_entry};
-ghost use Rattle.yaml_core.specs.Stack.{Leaves};
+ghost use Rattle.yaml_core.specs.Keys.{are_distinct};
+ghost use Rattle.yaml_core.specs.Measured.{Entry, add_entry, find_entry};
+ghost use Rattle.yaml_core.specs.Stack.{Gives};
 
 use crate::fault::YamlFault;
-use crate::text::Text;
 use crate::value::Value;
-use indexmap::IndexMap;
 use std::alloc::Global;
+use std::collections::BTreeMap;
 use std::marker::Model;
+use yaml_tokens::Text;
 
-/// The values so far, in the order of the text. Contracts see them as the list of their entries.
+/// The values so far, in the order of the text. Contracts see them as the list of their entries. A key is
+/// found in logarithmic time, whatever the keys are.
 #[derive(Drop)]
 pub struct Entries {
-    by_key: IndexMap<String, Value>,
+    held: Vec<(Text, Value)>,
+    places: BTreeMap<String, usize>,
 }
 
 impl Model for Entries {
-    ghost use Rattle.std.specs.Prelude.{List, map};
+    ghost use Rattle.std.specs.Prelude.{List};
     ghost use Rattle.std.specs.Coded.{coded_list};
     ghost use Rattle.yaml_core.specs.Measured.{Entry, entry_code};
-    ghost use Rattle.yaml_core.specs.Entries.{entry_of};
+    ghost use Rattle.yaml_core.specs.Entries.{IsIndexed};
 
     ghost Value = { List Entry };
 
     ghost coded = { coded_list entry_code };
 
-    ghost view = { λ entries. map entry_of entries.by_key.entries };
+    ghost view = { λ entries. entries.held.items };
+
+    ghost invariant = { λ entries. IsIndexed entries.places entries.held.items };
 }
 
 impl Entries {
@@ -37,31 +41,42 @@ impl Entries {
         ensures { result ≡ [] }
     {
         Entries {
-            by_key: IndexMap::new(alloc),
+            held: Vec::new(alloc),
+            places: BTreeMap::new(alloc),
         }
     }
 
-    /// Adds an entry; `Form` where the key is there already.
-    pub fn add(&mut self, key: Text, value: Value) -> Result<(), YamlFault>
-        ensures { Leaves result self.new (add_entry self.old key value) }
+    /// The entries with one more; `Form` if the key is there already.
+    pub fn add(self, alloc: Global, key: Text, value: Value) -> Result<Self, YamlFault>
+        ensures { Gives result (add_entry self key value) }
     {
-        match self.by_key.insert(key.into_string(), value)? {
-            None => Ok(()),
-            Some(_) => Err(YamlFault::Form),
+        let Entries {
+            mut held,
+            mut places,
+        } = self;
+        let name = String::from_str(alloc, key.as_str())?;
+        if places.insert(name, held.len())?.is_some() {
+            return Err(YamlFault::Form);
         }
+        held.push((key, value))?;
+        Ok(Entries { held, places })
     }
 
     /// The value under a key.
     pub fn get(&self, key: &str) -> Option<&Value>
         ensures { option_copied result ≡ find_entry key.now self.now }
     {
-        self.by_key.get(key)
+        match self.places.get(key) {
+            Some(place) => Some(&self.held[*place].1),
+            None => None,
+        }
     }
 
-    /// The map of the values by their keys.
-    pub(crate) fn into_map(self) -> IndexMap<String, Value>
-        ensures { map entry_of result.entries ≡ self }
+    /// The entries, in the order of the text.
+    pub(crate) fn into_entries(self) -> Vec<(Text, Value)>
+        ensures entries { result.items ≡ self }
+        ensures distinct { are_distinct (map (λ (e : Entry). e.0) self) ≡ true }
     {
-        self.by_key
+        self.held
     }
 }

@@ -1,11 +1,13 @@
 //! Why bytes have no tree.
 ghost use Rattle.std.specs.Prelude.{◌≡◌};
+ghost use Rattle.yaml_core.specs.Faults.{yaml_fault};
 ghost use Rattle.yaml_core.specs.declared.fault.YamlFault.TheVariants.{NoMemory};
 
 use std::alloc::{AllocError, AllocFailed};
 use thiserror::Error;
+use yaml_tokens::TokenFault;
 
-/// Why bytes have no tree. The first that holds, in this order, is the answer; memory may run out
+/// Why bytes have no tree. The first that holds, in this order, is returned; memory may run out
 /// at any point.
 #[derive(Clone, Copy, Debug, PartialEq, Eq, Error)]
 pub enum YamlFault {
@@ -36,5 +38,16 @@ impl<T: Drop> From<AllocFailed<T>> for YamlFault {
 
     fn from(_e: AllocFailed<T>) -> YamlFault {
         YamlFault::NoMemory
+    }
+}
+
+impl From<TokenFault> for YamlFault {
+    ghost from_gives = { λ f e. e ≡ yaml_fault f };
+
+    fn from(fault: TokenFault) -> YamlFault {
+        match fault {
+            TokenFault::Form => YamlFault::Form,
+            TokenFault::NoMemory => YamlFault::NoMemory,
+        }
     }
 }

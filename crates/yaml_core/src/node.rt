@@ -3,8 +3,8 @@ ghost use Rattle.std.specs.Prelude.{◌≡◌};
 ghost use Rattle.std.specs.Option.{option_copied};
 ghost use Rattle.yaml_core.specs.Lookup.{value_at, value_among, unless_null, list_of, text_at};
 
-use crate::text::Text;
 use sqlite_items::Items;
+use yaml_tokens::Text;
 
 /// Nodes in order, which contracts see as their list.
 pub type Nodes = Items<Node>;
@@ -16,7 +16,7 @@ pub type Pairs = Items<Pair>;
 #[cycle(node)]
 #[derive(Drop)]
 pub enum Node {
-    /// A plain scalar, but for the words that stand for null.
+    /// A plain scalar that is not one of the words for null.
     Scalar(Text),
     /// A scalar in single or double quotes, without them.
     Quoted(Text),
@@ -34,7 +34,7 @@ pub enum Node {
 pub struct Pair {
     /// The key, quoted or not.
     pub key: Text,
-    /// The node that stands under the key.
+    /// The node under the key.
     pub value: Node,
 }
 
@@ -81,7 +81,7 @@ fn value_among<'a>(pairs: &'a [Pair], key: &str) -> Option<&'a Node>
     None
 }
 
-/// The value of the first pair of a map that has the key. `None` where the node is no map, the key
+/// The value of the first pair of a map that has the key. `None` if the node is no map, the key
 /// isn't there or its value is null, so that a null value counts as a missing one.
 pub fn get<'a>(node: &'a Node, key: &str) -> Option<&'a Node>
     ensures value { option_copied result ≡ value_at key.now node.now }

@@ -6,17 +6,15 @@ ghost use Rattle.yaml_core.specs.Size.{node_height};
 ghost use Rattle.yaml_core.specs.Tree.{text_measured, max_levels};
 ghost use Rattle.yaml_core.specs.Stack.{Gives};
 
+use crate::anchors::uses_of_names;
 use crate::blocks::tree_of;
 use crate::fault::YamlFault;
-use crate::lines::{lines_of, without_mark};
-use crate::names::uses_of_names;
 use crate::node::Node;
+use crate::size::MOST_BYTES;
 use crate::value::Value;
 use std::alloc::Global;
 use std::str;
-
-/// The most bytes of a text.
-pub const MOST_BYTES: usize = 67_108_864;
+use yaml_tokens::without_mark;
 
 /// The tree of a text, however many nodes it has.
 fn tree_of_text(alloc: Global, text: &str) -> Result<Value, YamlFault>
@@ -24,13 +22,12 @@ fn tree_of_text(alloc: Global, text: &str) -> Result<Value, YamlFault>
 {
     let text = without_mark(text);
     let uses = uses_of_names(alloc, text)?;
-    let lines = lines_of(alloc, text)?;
-    tree_of(alloc, uses, lines.as_slice())
+    tree_of(alloc, uses, text)
 }
 
 /// The tree of a text, or the first of the faults that it has. The tree has at most 64 levels, and the
 /// keys of each mapping in it are distinct. A text that has no tree is refused as
-/// [`YamlFault::Form`] also where what stands before the place of the fault has too many nodes.
+/// [`YamlFault::Form`] also if what comes before the place of the fault has too many nodes.
 pub fn read_yaml(alloc: Global, bytes: &[u8]) -> Result<Node, YamlFault>
     requires { length bytes.now ≤ MOST_BYTES }
     ensures levels { IfOk result (λ tree. node_height tree ≤ max_levels) }

@@ -1,9 +1,8 @@
 //! Nodes while they are built, with their numbers of levels and of nodes.
-ghost use Rattle.std.specs.Prelude.{◌≡◌, ◌≤◌, ◌++◌, ◌∷◌, [], true, map, option_map, IfOk, OnOk, nat_le, Some};
+ghost use Rattle.std.specs.Prelude.{◌≡◌, ◌≤◌, ◌++◌, ◌∷◌, [], map, option_map, IfOk, OnOk, nat_le, Some, None};
 ghost use Rattle.yaml_core.specs.Measured.{leaf, list_node, map_node, pair, pair_of, Entry};
-ghost use Rattle.yaml_core.specs.Entries.{entry_of};
-ghost use Rattle.yaml_core.specs.Keys.{are_distinct, HasDistinctKeys};
-ghost use Rattle.yaml_core.specs.Kept.{KeepsMore, KeepsNodes, nodes_up_to};
+ghost use Rattle.yaml_core.specs.Keys.{HasDistinctKeys};
+ghost use Rattle.yaml_core.specs.Kept.{IsLeftOut, KeepsMore, KeepsNodes, nodes_up_to};
 ghost use Rattle.yaml_core.specs.Read.{AnswersNode, within_limit};
 ghost use Rattle.yaml_core.specs.Size.{node_count, node_height};
 ghost use Rattle.yaml_core.specs.Tree.{max_levels};
@@ -13,15 +12,14 @@ use crate::entries::Entries;
 use crate::fault::YamlFault;
 use crate::node::{Node, Nodes, Pair, Pairs};
 use crate::size::MOST_NODES;
-use crate::text::Text;
 use crate::value_note::{Gathered, Origin, ValueNote, ValuesNote};
-use indexmap::IndexMap;
 use sqlite_items::Items;
 use std::alloc::{AllocError, Global};
 use std::marker::Model;
+use yaml_tokens::Text;
 
-/// A node with its numbers of levels and of nodes, which stand still at their last values. Contracts see
-/// it as the node with its levels, also where the node itself isn't kept because there are too many.
+/// A node with its numbers of levels and of nodes, which stop at their last values. Contracts see
+/// it as the node with its levels, also if the node itself isn't kept because there are too many.
 #[derive(Drop)]
 pub struct Value {
     node: Option<Node>,
@@ -75,13 +73,14 @@ struct Paired {
     nodes: u32,
 }
 
-/// What was kept with one more, where that is kept too and there are at most [`MOST_NODES`] nodes.
+/// What was kept with one more, if that is kept too and there are at most [`MOST_NODES`] nodes.
 fn kept_with<T: Drop>(
     all: Option<Items<T>>,
     more: Option<T>,
     nodes: u32,
 ) -> Result<Option<Items<T>>, AllocError>
-    ensures { IfOk result (λ kept. KeepsMore all more kept) }
+    ensures kept { IfOk result (λ kept. KeepsMore all more kept) }
+    ensures left_out { IfOk result (λ kept. kept ≡ None → IsLeftOut all more nodes) }
 {
     let Some(mut all) = all else {
         return Ok(None);
@@ -96,7 +95,7 @@ fn kept_with<T: Drop>(
     Ok(Some(all))
 }
 
-/// The list of these nodes, where they are kept.
+/// The list of these nodes, if they are kept.
 fn list_of(nodes: Option<Nodes>) -> Option<Node>
     ensures { result ≡ option_map (λ ns. Node.List ns) nodes }
 {
@@ -106,7 +105,7 @@ fn list_of(nodes: Option<Nodes>) -> Option<Node>
     }
 }
 
-/// The mapping of these pairs, where they are kept.
+/// The mapping of these pairs, if they are kept.
 fn map_of(pairs: Option<Pairs>) -> Option<Node>
     ensures { result ≡ option_map (λ ps. Node.Map ps) pairs }
 {
@@ -116,7 +115,7 @@ fn map_of(pairs: Option<Pairs>) -> Option<Node>
     }
 }
 
-/// The pair of a key and a node, where that is kept.
+/// The pair of a key and a node, if that is kept.
 fn pair_of(key: Text, node: Option<Node>) -> Option<Pair>
     ensures { result ≡ option_map (λ n. pair key n) node }
 {
@@ -127,15 +126,13 @@ fn pair_of(key: Text, node: Option<Node>) -> Option<Pair>
 }
 
 /// The pairs of the entries.
-fn pairs_of(alloc: Global, entries: IndexMap<String, Value>) -> Result<Paired, AllocError>
-    ensures kept { IfOk result (λ paired. let es = map entry_of entries.entries in KeepsNodes paired.all paired.levels paired.nodes (map pair_of es) (map (λ (e : Entry). e.1) es)) }
-    ensures distinct { OnOk result (are_distinct (map (λ (e : Entry). e.0) (map entry_of entries.entries)) ≡ true) }
+fn pairs_of(alloc: Global, entries: Vec<(Text, Value)>) -> Result<Paired, AllocError>
+    ensures { IfOk result (λ paired. KeepsNodes paired.all paired.levels paired.nodes (map pair_of entries.items) (map (λ (e : Entry). e.1) entries.items)) }
 {
     let mut all = Some(Items::new(alloc));
     let mut levels: u8 = 0;
     let mut nodes: u32 = 0;
     for (key, value) in entries {
-        let key = Text::from_string(key);
         levels = levels.max(value.levels);
         nodes = value.nodes.saturating_add(nodes);
         all = kept_with(all, pair_of(key, value.node), nodes)?;
@@ -200,7 +197,7 @@ impl Value {
         ensures { IfOk result (λ value. value ≡ map_node entries) }
     {
         let note = ValueNote::of(&Origin::Map(&entries));
-        let paired = pairs_of(alloc, entries.into_map())?;
+        let paired = pairs_of(alloc, entries.into_entries())?;
         Ok(Value {
             node: map_of(paired.all),
             levels: paired.levels.saturating_add(1),
@@ -224,8 +221,8 @@ impl Value {
         self.levels as usize <= levels
     }
 
-    /// The node, unless it has more than [`MOST_NODES`] nodes. `NoMemory` where the node isn't there
-    /// although it has no more: a node is left out only where the text has too many nodes or no tree.
+    /// The node, unless it has more than [`MOST_NODES`] nodes. `NoMemory` if the node isn't there
+    /// although it has no more: a node is left out only if the text has too many nodes or no tree.
     pub fn into_node(self) -> Result<Node, YamlFault>
         ensures answer { AnswersNode result (within_limit (Some self.node)) }
         ensures levels { IfOk result (λ node. node_height node ≡ self.height) }
@@ -252,7 +249,7 @@ impl Value {
         }
     }
 
-    /// The same value again, with a copy of its node where that is kept.
+    /// The same value again, with a copy of its node if that is kept.
     pub fn copy(&self, alloc: Global) -> Result<Self, AllocError>
         ensures { IfOk result (λ value. value ≡ self.now) }
     {

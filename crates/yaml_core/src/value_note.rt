@@ -1,13 +1,13 @@
-//! What values stand for. Only clauses read it; it takes no memory and does nothing at run time.
+//! What values mean. Only clauses read it; it takes no memory and does nothing at run time.
 ghost use Rattle.std.specs.Prelude.{◌≡◌, List};
 ghost use Rattle.std.specs.Borrow.{ftrue};
 ghost use Rattle.yaml_core.specs.Measured.{Measured, measured_code};
 ghost use Rattle.std.specs.Coded.{coded_list};
 
 use crate::entries::Entries;
-use crate::text::Text;
 use crate::value::{Value, Values};
 use std::marker::Model;
+use yaml_tokens::Text;
 
 /// What a value comes from.
 #[derive(Clone, Copy, Drop)]
@@ -35,7 +35,7 @@ pub(crate) enum Gathered<'a> {
     More(&'a Values, &'a Value),
 }
 
-/// The node that a value stands for.
+/// The node that a value means.
 #[derive(Drop)]
 pub(crate) struct ValueNote {
     ghost measured: { Measured } by { measured_code },
@@ -45,7 +45,7 @@ impl Model for ValueNote {
     ghost also_owns = { λ _. ftrue };
 }
 
-/// The nodes that values stand for.
+/// The nodes that values mean.
 #[derive(Drop)]
 pub(crate) struct ValuesNote {
     ghost measured: { List Measured } by { coded_list measured_code },

@@ -25,7 +25,7 @@ use denote.Triple.Entry.{alive}
 use denote.Triple.Spec.{Meets, triple_of}
 use denote.Triple.Table.{entered}
 use denote.Triple.Walked.{says, Stays, stay_dropped, walk_of, ends_at, walk_Meets, Goes-dropped}
-use Rattle.yaml_core.proofs.Walks.{none, none_made}
+use Rattle.yaml_core.proofs.WalkLemmas.{none, none_made}
 use Rattle.yaml_core.specs.contracts.value_note.ValuesNote as ValuesNote
 use Rattle.yaml_core.specs.contracts.value_note.Gathered as Gathered
 use Rattle.yaml_core.specs.Origins.{nodes_from}

@@ -1,6 +1,0 @@
-use Rattle.std.proofs.Common.{◌∙◌, sym}
-use Rattle.yaml_core.proofs.QuotesLemmas.{double-turn}
-use Rattle.yaml_core.proofs.quoted.next_mark.Goals as goal
-
-pub loop-at-preserved : goal.loop-at-preserved
-loop-at-preserved c = c.loop-at.invariant ∙ double-turn c.args.bytes.now c.loop-at.at c.loop-at-test.true (sym c.if-is_mark.ensures)

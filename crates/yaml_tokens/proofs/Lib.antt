@@ -1,0 +1,8 @@
+pub mod FaultLemmas
+pub mod PlainLemmas
+pub mod LexerLemmas
+pub mod LinesLemmas
+pub mod QuotesLemmas
+pub mod NameLemmas
+pub mod WrittenLemmas
+mod WrittenExamples
