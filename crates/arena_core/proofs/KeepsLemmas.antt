@@ -6,7 +6,7 @@ use Rattle.std.proofs.lemmas.Bool.{cases_lt}
 use Rattle.arena_core.specs.Links.{none, IsChain, Holds, Keeps, nexts, befores, owners, chains_of}
 use Rattle.arena_core.specs.Chains.{put_first}
 use Rattle.arena_core.specs.declared.links.Link.{Link}
-use Rattle.arena_core.proofs.Walks.{walks_are}
+use Rattle.arena_core.proofs.WalkLemmas.{walks_are}
 use Rattle.arena_core.proofs.LinkLemmas.{link_holds}
 
 pub holds_cast : (heads next before owner heads' next' before' owner' : List ℕ) (chains : List (List ℕ)) → Holds heads next before owner chains → heads' ≡ heads → next' ≡ next → before' ≡ before → owner' ≡ owner → Holds heads' next' before' owner' chains

@@ -4,7 +4,7 @@ use Rattle.std.specs.List.{Contains}
 use Rattle.std.proofs.lemmas.List.{get_or_past, length-set, get_or-set_same, get_or-set_other}
 use Rattle.std.proofs.lemmas.Bool.{cases_eq, cases_lt}
 use Rattle.arena_core.specs.Links.{none, IsChain, Holds}
-use Rattle.arena_core.proofs.Walks.{chain_distinct}
+use Rattle.arena_core.proofs.WalkLemmas.{chain_distinct}
 
 -- a chain whose seats have the links that they had
 pub chain_frame : (next before owner next' before' owner' : List ℕ) (p head head' : ℕ) (xs xs' : List ℕ) → IsChain next before owner p head xs → head' ≡ head → xs' ≡ xs → length next' ≡ length next

@@ -1,6 +1,6 @@
 -- What callers of chains know of a seat.
 use Rattle.std.proofs.Common.{◌≡◌, ◌≢◌, ℕ, zero, suc, ◌+◌, ◌<◌, ◌≤◌, List, [], ◌∷◌, length, get_or, None, Some, refl, sym, ◌∙◌, ap, subst, arith, inl, inr}
-use Rattle.std.specs.List.{slice_get}
+use Rattle.std.specs.List.{Contains, slice_get}
 use Rattle.std.proofs.lemmas.List.{get_or_past, get_or_default, length-map, get_or-map}
 use Rattle.std.proofs.lemmas.Bool.{cases_lt}
 use Rattle.arena_core.specs.Links.{none, Keeps, HasRoom, nexts, befores, owners, chains_of}
@@ -39,6 +39,24 @@ seated heads links chains s h e has =
     let is : get_or (get_or (chains_of heads links) p []) k none ≡ s = get_or_default (get_or (chains_of heads links) p []) k none s lk ∙ mine.1.2 in
     let i = c.inside k lk in
     (omega (arith, i, is, length-nexts links), λ out. (let o = ap (λ x. get_or (owners links) x none) (sym is) ∙ c.owned k lk in omega (arith, sym (ap (λ x. get_or (owners links) x none) (sym is)) ∙ out, c.owned k lk, lp, h.few_places)))
+
+-- a seat is in the chain of its owner
+pub owned : (heads : List ℕ) (links : List Link) (chains : List (List ℕ)) (s m : ℕ) (l : Link) → Keeps heads links → chains_of heads links ≡ chains → IsSeated chains s → m ≡ s → l ≡ get_or links m l → Contains (get_or chains l.owner []) s
+owned heads links chains s m l h e has same read =
+    let P : List (List ℕ) → Type 0 = λ c. IsSeated c s in
+    let mine : IsSeated (chains_of heads links) s = subst P (sym e) has in
+    let p : ℕ = mine.0 in
+    let k : ℕ = mine.1.0 in
+    let lk : k < length (get_or (chains_of heads links) p []) = mine.1.1 in
+    let lp : p < length heads = omega (arith, h.count, place_inside (chains_of heads links) p k lk) in
+    let c = h.chain p lp in
+    let is : get_or (get_or (chains_of heads links) p []) k none ≡ s = get_or_default (get_or (chains_of heads links) p []) k none s lk ∙ mine.1.2 in
+    let ls : s < length links = omega (arith, c.inside k lk, is, length-nexts links) in
+    let at : get_or (owners links) s none ≡ p = ap (λ x. get_or (owners links) x none) (sym is) ∙ c.owned k lk in
+    let owner : l.owner ≡ p = ap (λ (x : Link). x.owner) (read ∙ ap (λ j. get_or links j l) same) ∙ sym (get_or-map (λ (x : Link). x.owner) links s l none ls) ∙ at in
+    let Q : ℕ → Type 0 = λ q. Contains (get_or (chains_of heads links) q []) s in
+    let R : List (List ℕ) → Type 0 = λ c. Contains (get_or c l.owner []) s in
+    subst R e (subst Q (sym owner) mine.1)
 
 pub seat_small : (heads : List ℕ) (links : List Link) (room : ℕ) (s : ℕ) → HasRoom heads links room → s < length links → s < 4200000000
 seat_small heads links room s h lt = omega (arith, h.wide, lt)

@@ -5,7 +5,7 @@ use Rattle.std.proofs.lemmas.List.{get_or_past, get_or_default, length-set, get_
 use Rattle.std.proofs.lemmas.List.Edits.{get_or-remove_below, get_or-remove_above, length-remove}
 use Rattle.std.proofs.lemmas.Bool.{cases_eq, cases_lt}
 use Rattle.arena_core.specs.Links.{none, IsChain, Holds}
-use Rattle.arena_core.proofs.Walks.{chain_distinct}
+use Rattle.arena_core.proofs.WalkLemmas.{chain_distinct}
 use Rattle.arena_core.proofs.LinkLemmas.{chain_frame, held_at}
 
 pub distinct_ne : (next before owner : List ℕ) (p head : ℕ) (xs : List ℕ) → IsChain next before owner p head xs → length next < none → (i j : ℕ) → i ≢ j → i < length xs → j < length xs → get_or xs i none ≢ get_or xs j none

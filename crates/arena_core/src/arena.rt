@@ -90,7 +90,7 @@ impl<L: Lit> Arena<L> {
         self.rows.count() as u32
     }
 
-    /// Puts a clause last, and gives its number. Want of memory leaves the arena as it was.
+    /// Puts a clause last, and returns its number. Out of memory, the arena stays as it was.
     pub fn push(&mut self, literals: &[L]) -> Result<ClauseId, AllocError>
         requires room { length self.old < MOST_CLAUSES }
         requires short { length literals.now ≤ MOST_LITERALS }
@@ -124,7 +124,7 @@ impl<L: Lit> Arena<L> {
         self.rows.row(id.number as usize).len() as u32
     }
 
-    /// Lets the literals at places `i` and `j` of a clause change places.
+    /// Exchanges the literals at places `i` and `j` of a clause.
     #[inline]
     pub fn swap(&mut self, id: ClauseId, i: u32, j: u32)
         requires clause { id < length self.old }

@@ -1,5 +1,5 @@
 //! For each literal a chain of the seats that watch it.
-ghost use Rattle.std.specs.Prelude.{◌≡◌, ◌*◌, ◌/◌, ◌<◌, ◌≤◌, length, slice_get, OnErr, OnOk, IfOk, replicate, max, []};
+ghost use Rattle.std.specs.Prelude.{◌≡◌, ◌*◌, ◌/◌, ◌<◌, ◌≤◌, length, slice_get, OnErr, OnOk, IfOk, replicate, max, [], Contains};
 ghost use Rattle.arena_core.specs.declared.lit.TheConstants.{MOST_VARIABLES};
 ghost use Rattle.arena_core.specs.Chains.{chain_at, put_first, taken_out, IsSeated, IsNext, AreApart};
 
@@ -99,7 +99,7 @@ impl<L: Lit> Chains<L> {
         );
     }
 
-    /// The first seat of a literal's chain; None exactly where the chain is empty.
+    /// The first seat of a literal's chain; None exactly when the chain is empty.
     #[inline]
     pub fn first(&self, literal: L) -> Option<Seat>
         requires { L.table_place literal < length self.now.chains }
@@ -114,7 +114,16 @@ impl<L: Lit> Chains<L> {
         }
     }
 
-    /// The seat after a seat in its chain; None exactly where it is the last.
+    /// The place of the literal in whose chain a seat is.
+    #[inline]
+    pub fn place_of(&self, seat: Seat) -> u32
+        requires { IsSeated self.now.chains seat }
+        ensures { Contains (chain_at self.now.chains result) seat }
+    {
+        self.links[seat.slot() as usize].owner
+    }
+
+    /// The seat after a seat in its chain; None exactly when it is the last.
     #[inline]
     pub fn next(&self, seat: Seat) -> Option<Seat>
         requires { IsSeated self.now.chains seat }

@@ -3,6 +3,7 @@
 
 pub use arena::{Arena, ClauseId, MOST_CLAUSES, MOST_LITERALS};
 pub use chains::Chains;
+pub use limits::limits_are_fixed;
 pub use lit::{Lit, MOST_VARIABLES};
 pub use seat::Seat;
 pub use small_lit::SmallLit;
@@ -10,6 +11,7 @@ pub use steps::Steps;
 
 mod arena;
 mod chains;
+mod limits;
 mod links;
 mod lit;
 mod seat;

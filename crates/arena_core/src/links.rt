@@ -3,10 +3,10 @@ ghost use Rattle.std.specs.Prelude.{◌≡◌, ◌≢◌, ◌<◌, ◌≤◌, �
 ghost use Rattle.arena_core.specs.Chains.{put_first, taken_out, IsSeated, AreApart};
 ghost use Rattle.arena_core.specs.Links.{none, nexts, befores, owners, chains_of, Keeps};
 
-/// Stands for no seat and for no place: above all of them.
+/// No seat and no place: a number above all of them.
 pub const NONE: u32 = 4294967295;
 
-/// Where a seat stands: the next seat, the one before, and the place of its literal.
+/// The neighbours of a seat: the next seat, the one before, and the place of its literal.
 ///
 /// A move reads and writes all three, so they lie together.
 #[derive(Clone, Copy)]
@@ -61,7 +61,7 @@ fn set_owner(links: &mut [Link], i: usize, value: u32)
     link.owner = value;
 }
 
-/// Where a seat stands.
+/// The neighbours of a seat.
 #[inline]
 fn link_at(links: &[Link], i: usize) -> Link
     requires { i < length links.now }
@@ -122,7 +122,7 @@ fn put_before(links: &mut [Link], i: u32, value: u32)
     }
 }
 
-/// Writes the first seat of a literal, where no seat is before.
+/// Writes the first seat of a literal, if no seat is before.
 #[inline]
 fn put_head(heads: &mut [u32], place: usize, before: u32, value: u32)
     requires { place < length heads.old }

@@ -1,5 +1,5 @@
 //! Seats: the places from which a clause watches two of its literals.
-ghost use Rattle.std.specs.Prelude.{◌≡◌, ◌+◌, ◌*◌, ◌/◌, ◌%◌, ◌<◌, ◌≤◌};
+ghost use Rattle.std.specs.Prelude.{◌≡◌, ◌+◌, ◌-◌, ◌*◌, ◌/◌, ◌%◌, ◌<◌, ◌≤◌};
 
 use crate::arena::ClauseId;
 use std::marker::Model;
@@ -36,6 +36,19 @@ impl Seat {
         Seat {
             number: 2 * clause.number() + side as u32,
         }
+    }
+
+    /// The seat of the same clause on the other side.
+    #[inline]
+    pub fn other(self) -> Seat
+        ensures { result ≡ 2 * (self / 2) + (1 - self % 2) }
+    {
+        let number = if self.number % 2 == 0 {
+            self.number + 1
+        } else {
+            self.number - 1
+        };
+        Seat { number }
     }
 
     /// The seat at a place in a table of seats.

@@ -15,8 +15,8 @@ use Rattle.watch_core.specs.Trail.{Entry, Assignment, IsTrail, IsLeveled, places
 use Rattle.watch_core.specs.Kept.{blank, reason_of, entry_of, entries_of, IsKept, Keeps}
 use Rattle.watch_core.specs.declared.trail.Mark.{Mark}
 use Rattle.watch_core.specs.declared.trail.TheConstants.{NO_REASON}
-use Rattle.watch_core.proofs.Assign.{more_true, or_none, value_none, not_eqb, order_short, course_assigned}
-use Rattle.watch_core.proofs.Levels.{leveled_more, leveled_cut, cut_is, cut_all}
+use Rattle.watch_core.proofs.AssignLemmas.{more_true, or_none, value_none, not_eqb, order_short, course_assigned}
+use Rattle.watch_core.proofs.LevelLemmas.{leveled_more, leveled_cut, cut_is, cut_all}
 
 -- the level is at most the number of variables
 level_low : {L : Type 0} (at : L → ℕ) (values : List ℕ) (marks : List Mark) (order : List L) (capacity taken level : ℕ) → Keeps at values marks order capacity taken level → level ≤ length marks

@@ -1,8 +1,9 @@
 -- What a new clause must be, and its standing.
-use Rattle.std.specs.Prelude.{ℕ, ◌≡◌, ◌≢◌, ◌+◌, ◌*◌, ◌<◌, ◌≤◌, true, false, List, [], ◌∷◌, length, All, slice_index_or, ◌⊎◌, if◌then◌else◌}
+use Rattle.std.specs.Prelude.{ℕ, ◌≡◌, ◌+◌, ◌*◌, ◌<◌, ◌≤◌, true, false, List, [], ◌∷◌, length, All, slice_index_or, ◌⊎◌, if◌then◌else◌}
 use Rattle.arena_core.specs.Chains.{put_first}
-use Rattle.literals_core.specs.Literal.{variable_of, negation}
+use Rattle.literals_core.specs.Literal.{negation}
 use Rattle.literals_core.specs.Truth.{is_true, is_false, open_literals}
+use Rattle.watch_core.specs.Places.{HasDistinctVariables}
 use Rattle.watch_core.specs.Trail.{Assignment, Entry, places}
 use Rattle.watch_core.specs.declared.added.Standing.{Standing}
 use Rattle.watch_core.specs.declared.added.Standing.TheVariants.{Free, Unit, False}
@@ -19,14 +20,21 @@ standing_of set clause = standing_open set (open_literals set clause)
 
 -- the level at which a literal became false is at most that of another
 abbrev pub NotAfter : {L : Type 0} → (L → ℕ) → Assignment L → ℕ → ℕ → Type 0
-NotAfter {L} at t l m = (a b : ℕ) (d : Entry L) → a < length t.entries → b < length t.entries → at (slice_index_or t.entries a d).literal ≡ negation l → at (slice_index_or t.entries b d).literal ≡ negation m → (slice_index_or t.entries a d).level ≤ (slice_index_or t.entries b d).level
+NotAfter {L} at t l m =
+    (a b : ℕ) (d : Entry L) → a < length t.entries → b < length t.entries
+    → at (slice_index_or t.entries a d).literal ≡ negation l → at (slice_index_or t.entries b d).literal ≡ negation m
+    → (slice_index_or t.entries a d).level ≤ (slice_index_or t.entries b d).level
 
 -- the conditions on the literals of a new clause
 pub record CanAdd {L : Type 0} (at : L → ℕ) (t : Assignment L) (c : List ℕ) : Type 0 where
   pub inside : All (λ l. l < 2 * t.variables) c
-  pub apart : (i j : ℕ) → i < j → j < length c → variable_of (slice_index_or c i 0) ≢ variable_of (slice_index_or c j 0)
+  pub apart : HasDistinctVariables c
   pub first : 2 ≤ length c → is_false (places at t.entries) (slice_index_or c 0 0) ≡ false
-  pub second : 2 ≤ length c → (is_false (places at t.entries) (slice_index_or c 1 0) ≡ false) ⊎ ((i : ℕ) → 1 ≤ i → i < length c → (is_false (places at t.entries) (slice_index_or c i 0) ≡ true) × NotAfter at t (slice_index_or c i 0) (slice_index_or c 1 0))
+  pub second :
+      2 ≤ length c
+      → (is_false (places at t.entries) (slice_index_or c 1 0) ≡ false)
+      ⊎ ((i : ℕ) → 1 ≤ i → i < length c
+      → (is_false (places at t.entries) (slice_index_or c i 0) ≡ true) × NotAfter at t (slice_index_or c i 0) (slice_index_or c 1 0))
 
 -- both seats of a clause go into the chains of its first two literals
 abbrev pub both_put : List (List ℕ) → ℕ → List ℕ → List (List ℕ)

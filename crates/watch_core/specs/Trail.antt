@@ -39,7 +39,12 @@ value_of set l = if is_true set l then Some true else (if is_false set l then So
 
 -- after one more literal on a level
 abbrev pub entered : {L : Type 0} → Assignment L → L → ℕ → Option ℕ → Assignment L
-entered t literal level reason = record { entries = t.entries ++ record { literal = literal; level = level; reason = reason } ∷ []; level = level; taken = t.taken; variables = t.variables }
+entered t literal level reason = record {
+  entries = t.entries ++ record { literal = literal; level = level; reason = reason } ∷ [];
+  level = level;
+  taken = t.taken;
+  variables = t.variables;
+}
 
 -- after one more literal on the current level
 abbrev pub assigned : {L : Type 0} → Assignment L → L → Option ℕ → Assignment L
@@ -51,7 +56,12 @@ decided t literal = entered t literal (t.level + 1) None
 
 -- the literals of higher levels have left
 abbrev pub undone : {L : Type 0} → Assignment L → ℕ → Assignment L
-undone t level = record { entries = cut t.entries level; level = level; taken = min t.taken (length (cut t.entries level)); variables = t.variables }
+undone t level = record {
+  entries = cut t.entries level;
+  level = level;
+  taken = min t.taken (length (cut t.entries level));
+  variables = t.variables;
+}
 
 -- the first waiting literal was taken in
 abbrev pub one_taken : {L : Type 0} → Assignment L → Assignment L

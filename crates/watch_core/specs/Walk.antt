@@ -2,7 +2,7 @@
 use Rattle.std.specs.Prelude.{ℕ, ◌≡◌, ◌≢◌, ◌/◌, ◌<◌, ◌≤◌, List, length}
 use Rattle.arena_core.specs.Chains.{put_first, taken_out}
 use Rattle.watch_core.specs.Trail.{Assignment, places}
-use Rattle.watch_core.specs.Settled.{IsClauseFalse}
+use Rattle.watch_core.specs.Rest.{IsClauseFalse}
 use Rattle.watch_core.specs.Cover.{clause_of, watched_at, HasTrue}
 use Rattle.watch_core.specs.declared.walk.Visit.{Visit}
 use Rattle.watch_core.specs.declared.walk.Visit.TheVariants.{Stays, Moved, False}

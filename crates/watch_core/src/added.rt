@@ -46,7 +46,7 @@ pub(crate) fn find_standing<L: Lit>(trail: &Trail<L>, clause: &[L]) -> Standing
     if !trail.is_false(clause[1]) {
         return Standing::Free;
     }
-    // Where the second literal is false, all but the first are.
+    // If the second literal is false, all but the first are.
     Standing::Unit
 }
 

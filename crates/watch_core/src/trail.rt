@@ -74,7 +74,15 @@ impl<L: Lit> Trail<L> {
         })
     }
 
-    /// The current level: how many decisions stand.
+    /// How many variables the trail has room for: they are numbered from 0 up to below this number.
+    #[inline]
+    pub fn variables(&self) -> u32
+        ensures { result ≡ self.now.variables }
+    {
+        self.marks.len() as u32
+    }
+
+    /// The current level: the number of decisions in force.
     #[inline]
     pub fn level(&self) -> u32
         ensures value { result ≡ self.now.level }
@@ -99,7 +107,7 @@ impl<L: Lit> Trail<L> {
         self.marks[variable as usize].level
     }
 
-    /// The clause that assigned a variable; None exactly where it isn't assigned or was given no reason.
+    /// The clause that assigned a variable; None exactly when it isn't assigned or was given no reason.
     #[inline]
     pub fn reason_of(&self, variable: u32) -> Option<ClauseId>
         requires { variable < self.now.variables }
@@ -133,7 +141,7 @@ impl<L: Lit> Trail<L> {
         self.taken += 1;
     }
 
-    /// Whether a literal is true or false; None exactly where its variable isn't assigned.
+    /// Whether a literal is true or false; None exactly when its variable isn't assigned.
     #[inline]
     pub fn value(&self, literal: L) -> Option<bool>
         requires { L.table_place literal < 2 * self.now.variables }
@@ -165,6 +173,16 @@ impl<L: Lit> Trail<L> {
         ensures { result ≡ is_true (places L.table_place self.now.entries) (L.table_place literal) }
     {
         let value = self.values[literal.place() as usize];
+        value == TRUE
+    }
+
+    /// Whether the literal at a place is true.
+    #[inline]
+    pub(crate) fn is_true_at(&self, place: u32) -> bool
+        requires { place < 2 * self.now.variables }
+        ensures { result ≡ is_true (places L.table_place self.now.entries) place }
+    {
+        let value = self.values[place as usize];
         value == TRUE
     }
 

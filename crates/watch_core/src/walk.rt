@@ -1,13 +1,13 @@
 //! The walk along the chain of a literal that became false.
-ghost use Rattle.std.specs.Prelude.{◌≡◌, ◌+◌, ◌*◌, ◌<◌, ◌≤◌, [], length, drop, Option, IfSome, IfNone, true};
+ghost use Rattle.std.specs.Prelude.{◌≡◌, ◌+◌, ◌*◌, ◌<◌, ◌≤◌, [], length, Option, IfSome, IfNone, true};
 ghost use Rattle.arena_core.specs.Chains.{chain_at, AreApart};
 ghost use Rattle.literals_core.specs.Truth.{is_false};
 ghost use Rattle.watch_core.specs.Places.{placed};
 ghost use Rattle.watch_core.specs.Trail.{places, waiting};
-ghost use Rattle.watch_core.specs.Settled.{IsFalseClause};
+ghost use Rattle.watch_core.specs.Rest.{IsFalseClause};
 ghost use Rattle.watch_core.specs.Cover.{IsPropagating, watched_at};
 ghost use Rattle.watch_core.specs.Propagates.{Propagates};
-ghost use Rattle.watch_core.specs.Looks.{false_occurrences};
+ghost use Rattle.watch_core.specs.Looks.{false_occurrences, walked};
 ghost use Rattle.watch_core.specs.Walk.{IsSeat, Visited, AllWalked};
 
 use crate::trail::{Trail, open_place};
@@ -25,7 +25,9 @@ pub enum Visit {
     False,
 }
 
-/// Visits one seat of a literal that became false, at the price of one look.
+/// Visits one seat of a literal that became false, at the price of one look at most.
+///
+/// If the other watched literal is true, its place, which the chains know, is enough.
 fn visit_seat<L: Lit, S: Ledger>(
     arena: &mut Arena<L>,
     chains: &mut Chains<L>,
@@ -40,16 +42,17 @@ fn visit_seat<L: Lit, S: Ledger>(
     ensures goes { Propagates L.table_place (placed L.table_place arena.old) trail.old (placed L.table_place arena.new) trail.new }
     ensures room { chains.new.room ≡ chains.old.room }
     ensures taken { trail.new.taken ≡ trail.old.taken }
-    ensures look { looks.new ≡ looks.old + 1 }
+    ensures look { looks.new ≤ looks.old + 1 }
     ensures outcome { Visited L.table_place (placed L.table_place arena.old) chains.old.chains trail.old (placed L.table_place arena.new) chains.new.chains trail.new seat result }
 {
+    let beside = chains.place_of(seat.other());
+    if trail.is_true_at(beside) {
+        return Visit::Stays;
+    }
     let id = seat.clause();
     let side = seat.side();
     let clause = arena.literals(id, looks);
     let other = clause[1 - side as usize];
-    if trail.is_true(other) {
-        return Visit::Stays;
-    }
     if let Some(j) = open_place(trail, clause) {
         let to = clause[j];
         arena.swap(id, side as u32, j as u32);
@@ -104,7 +107,7 @@ pub(crate) fn propagate_all<L: Lit, S: Ledger>(
     ensures going { IsPropagating L.table_place (placed L.table_place arena.new) chains.new.chains trail.new }
     ensures goes { Propagates L.table_place (placed L.table_place arena.old) trail.old (placed L.table_place arena.new) trail.new }
     ensures room { chains.new.room ≡ chains.old.room }
-    ensures looks { looks.new ≤ looks.old + false_occurrences (placed L.table_place arena.old) (places L.table_place (drop trail.old.taken trail.new.entries)) }
+    ensures looks { looks.new ≤ looks.old + false_occurrences (placed L.table_place arena.old) (places L.table_place (walked trail.old trail.new)) }
     ensures none { IfNone result (waiting trail.new ≡ []) }
     ensures some { IfSome result (IsFalseClause (places L.table_place trail.new.entries) (placed L.table_place arena.new)) }
 {

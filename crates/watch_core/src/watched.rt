@@ -1,13 +1,13 @@
 //! Clauses with a trail, and propagation by watched seats.
-ghost use Rattle.std.specs.Prelude.{ℕ, Contains, ◌≡◌, ◌==◌, ◌+◌, ◌*◌, ◌<◌, ◌≤◌, [], length, map, drop, ◌∷◌, ◌++◌, OnOk, OnErr, Option, None, IfOk, slice_index_or};
+ghost use Rattle.std.specs.Prelude.{ℕ, Contains, ◌≡◌, ◌==◌, ◌+◌, ◌*◌, ◌<◌, ◌≤◌, [], length, map, ◌∷◌, ◌++◌, OnOk, OnErr, Option, None, IfOk, slice_index_or};
 ghost use Rattle.std.specs.List.{IsDistinct};
 ghost use Rattle.arena_core.specs.declared.arena.TheConstants.{MOST_CLAUSES};
 ghost use Rattle.arena_core.specs.declared.lit.TheConstants.{MOST_VARIABLES};
-ghost use Rattle.watch_core.specs.Places.{placed};
+ghost use Rattle.watch_core.specs.Places.{placed, HasDistinctVariables};
 ghost use Rattle.watch_core.specs.Trail.{IsTrail, places, waiting, value_of, assigned, decided, undone, empty_trail};
-ghost use Rattle.watch_core.specs.Settled.{CanPropagate, Outcome};
+ghost use Rattle.watch_core.specs.Rest.{CanPropagate, Outcome};
 ghost use Rattle.watch_core.specs.Propagates.{Propagates, AreReordered};
-ghost use Rattle.watch_core.specs.Looks.{false_occurrences};
+ghost use Rattle.watch_core.specs.Looks.{false_occurrences, walked};
 ghost use Rattle.watch_core.specs.Watched.{Clauses};
 ghost use Rattle.watch_core.specs.Added.{CanAdd, standing_of};
 
@@ -64,12 +64,13 @@ impl<L: Lit> Watched<L> {
         &self.trail
     }
 
-    /// Lends the clauses. The literals of each are distinct, and of variables that there are.
+    /// Lends the clauses. The literals of each are of distinct variables, which there are.
     #[inline]
     pub fn arena(&self) -> &Arena<L>
         ensures value { result.now ≡ self.now.clauses }
         ensures inside { (clause place : ℕ) → Contains (slice_index_or (placed L.table_place self.now.clauses) clause []) place → place < 2 * self.now.trail.variables }
         ensures distinct { (clause : ℕ) → IsDistinct (λ x y. x == y) (slice_index_or (placed L.table_place self.now.clauses) clause []) }
+        ensures apart { (clause : ℕ) → HasDistinctVariables (slice_index_or (placed L.table_place self.now.clauses) clause []) }
     {
         &self.arena
     }
@@ -80,6 +81,7 @@ impl<L: Lit> Watched<L> {
         requires free { value_of (places L.table_place self.old.trail.entries) (L.table_place literal) ≡ None }
         ensures trail { self.new.trail ≡ assigned self.old.trail literal reason }
         ensures clauses { self.new.clauses ≡ self.old.clauses }
+        ensures kept { IsTrail L.table_place self.new.trail }
     {
         self.trail.assign(literal, reason);
     }
@@ -91,6 +93,7 @@ impl<L: Lit> Watched<L> {
         requires rest { waiting self.old.trail ≡ [] }
         ensures trail { self.new.trail ≡ decided self.old.trail literal }
         ensures clauses { self.new.clauses ≡ self.old.clauses }
+        ensures kept { IsTrail L.table_place self.new.trail }
     {
         self.trail.decide(literal);
     }
@@ -100,6 +103,7 @@ impl<L: Lit> Watched<L> {
         requires { level ≤ self.old.trail.level }
         ensures trail { self.new.trail ≡ undone self.old.trail level }
         ensures clauses { self.new.clauses ≡ self.old.clauses }
+        ensures kept { IsTrail L.table_place self.new.trail }
     {
         self.trail.undo_to(level);
     }
@@ -107,12 +111,13 @@ impl<L: Lit> Watched<L> {
     /// Puts a clause last, and tells how it stands. No literal may wait.
     ///
     /// Of two or more literals the first isn't false, and either the second isn't false too, or all but the first are
-    /// false and the second has the highest level among them. Want of memory leaves clauses and trail as they were.
+    /// false and the second has the highest level among them. Out of memory, clauses and trail stay as they were.
     pub fn add_clause(&mut self, literals: &[L]) -> Result<Added, AllocError>
         requires few { length self.old.clauses < MOST_CLAUSES }
         requires clause { CanAdd L.table_place self.old.trail (map L.table_place literals.now) }
         requires rest { waiting self.old.trail ≡ [] }
         ensures trail { self.new.trail ≡ self.old.trail }
+        ensures kept { IsTrail L.table_place self.new.trail }
         ensures clause { OnOk result (self.new.clauses ≡ self.old.clauses ++ literals.now ∷ []) }
         ensures err { OnErr result (self.new.clauses ≡ self.old.clauses) }
         ensures id { IfOk result (λ a. a.id ≡ length self.old.clauses) }
@@ -126,16 +131,19 @@ impl<L: Lit> Watched<L> {
         Ok(Added { id, standing })
     }
 
-    /// Takes in the waiting literals, until none waits or a clause is false, whose number it gives.
+    /// Takes in the waiting literals until none waits or a clause is false, and returns the number of that clause.
     ///
-    /// Under the trail cut at each lower level each clause of two or more literals is settled: it has a true literal, or
-    /// two that aren't false. On the whole trail it is settled too, or has the negation of a waiting literal.
+    /// Condition: under the trail cut at each lower level each clause of two or more literals is settled, so it has a true
+    /// literal or two that aren't false. On the whole trail it is settled too, or has the negation of a waiting literal.
+    /// None is returned exactly when each clause is settled. The looks are at most the occurrences of the literals that
+    /// became false and whose chains were walked.
     pub fn propagate<S: Ledger>(&mut self, looks: &mut Steps<S>) -> Option<ClauseId>
         requires ready { CanPropagate L.table_place self.old.trail (placed L.table_place self.old.clauses) }
         ensures outcome { Outcome L.table_place self.new.trail (placed L.table_place self.new.clauses) result }
         ensures order { AreReordered self.old.clauses self.new.clauses }
         ensures change { Propagates L.table_place (placed L.table_place self.old.clauses) self.old.trail (placed L.table_place self.new.clauses) self.new.trail }
-        ensures looks { looks.new ≤ looks.old + false_occurrences (placed L.table_place self.old.clauses) (places L.table_place (drop self.old.trail.taken self.new.trail.entries)) }
+        ensures kept { IsTrail L.table_place self.new.trail }
+        ensures looks { looks.new ≤ looks.old + false_occurrences (placed L.table_place self.old.clauses) (places L.table_place (walked self.old.trail self.new.trail)) }
     {
         propagate_all(&mut self.arena, &mut self.chains, &mut self.trail, looks)
     }

@@ -1,5 +1,5 @@
 use Rattle.std.proofs.Common.{◌∙◌, ap, not, true}
-use Rattle.arena_core.proofs.Moved.{all_seated, place_from}
+use Rattle.arena_core.proofs.MovedLemmas.{all_seated, place_from}
 use Rattle.arena_core.specs.declared.small_lit.SmallLit.{SmallLit}
 use Rattle.arena_core.proofs.tests.a_moved_seat_leaves_the_others_in_order.Goals as goal
 

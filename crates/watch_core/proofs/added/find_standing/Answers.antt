@@ -1,6 +1,6 @@
 use Rattle.std.proofs.Common.{◌≤◌, length, sym, ◌∙◌, rules}
 use Rattle.watch_core.specs.Trail.{places}
-use Rattle.watch_core.proofs.Adds.{find_unit, later_false}
+use Rattle.watch_core.proofs.AddLemmas.{find_unit, later_false}
 use Rattle.watch_core.proofs.added.find_standing.Goals as goal
 
 pub returns : goal.returns

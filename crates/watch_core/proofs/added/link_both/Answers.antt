@@ -1,5 +1,5 @@
 use Rattle.std.proofs.Common.{arith}
-use Rattle.watch_core.proofs.Adds.{seated_back}
+use Rattle.watch_core.proofs.AddLemmas.{seated_back}
 use Rattle.watch_core.proofs.added.link_both.Goals as goal
 
 pub link-requires-clause-free : goal.link-requires-clause-free

@@ -2,7 +2,7 @@ use Rattle.std.proofs.Common.{◌≡◌, ℕ, ◌≤◌, List, sym, subst, arith
 use Rattle.arena_core.specs.declared.lit.TheConstants.{MOST_VARIABLES}
 use Rattle.watch_core.specs.Places.{placed}
 use Rattle.watch_core.specs.Trail.{Assignment, decided, empty_trail}
-use Rattle.watch_core.specs.Settled.{CanPropagate}
+use Rattle.watch_core.specs.Rest.{CanPropagate}
 use Rattle.watch_core.proofs.ReadyLemmas.{rests_at_start, can_decided}
 use Rattle.watch_core.proofs.TrailLemmas.{empty_is}
 use Rattle.watch_core.proofs.tests.meets_a_false_clause.Goals as goal

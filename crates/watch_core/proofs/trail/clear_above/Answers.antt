@@ -2,7 +2,7 @@ use Rattle.std.proofs.Common.{ap, refl, ◌∙◌, ◌≡◌, ◌-◌, ◌/◌, 
 use Rattle.std.proofs.Common.{get_or}
 use Rattle.std.proofs.lemmas.List.{get_or_default}
 use Rattle.literals_core.specs.Literal.{negation}
-use Rattle.watch_core.proofs.Assign.{negation_is}
+use Rattle.watch_core.proofs.AssignLemmas.{negation_is}
 use Rattle.watch_core.proofs.TrailLemmas.{kept_turn, above_turn, clear_ends, clear_whole, turn_inside}
 use Rattle.watch_core.proofs.trail.clear_above.Goals as goal
 

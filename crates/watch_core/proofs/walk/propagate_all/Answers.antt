@@ -1,12 +1,12 @@
-use Rattle.std.proofs.Common.{ap, sym, refl, ◌∙◌, ◌≡◌, ◌+◌, arith}
+use Rattle.std.proofs.Common.{ap, sym, refl, ◌∙◌, ◌≡◌, arith}
 use Rattle.literals_core.specs.Literal.{negation}
 use Rattle.literals_core.proofs.Negation.{negation_twice}
 use Rattle.watch_core.specs.Places.{placed}
 use Rattle.watch_core.specs.Trail.{one_taken}
-use Rattle.watch_core.proofs.Assign.{negation_is}
-use Rattle.watch_core.proofs.Going.{goes_trans}
-use Rattle.watch_core.proofs.Visit.{first_waits, first_low, none_waits, negation_low, walked_taken}
-use Rattle.watch_core.proofs.Looks.{looks_more, looks_all}
+use Rattle.watch_core.proofs.AssignLemmas.{negation_is}
+use Rattle.watch_core.proofs.GoingLemmas.{goes_trans}
+use Rattle.watch_core.proofs.VisitLemmas.{first_waits, first_low, none_waits, negation_low, walked_taken}
+use Rattle.watch_core.proofs.LookLemmas.{looks_more, looks_whole}
 use Rattle.watch_core.proofs.walk.propagate_all.Goals as goal
 
 pub walk-requires-clause-waits : goal.walk-requires-clause-waits
@@ -39,7 +39,7 @@ pub returns-clause-none : goal.returns-clause-none
 returns-clause-none g c = none_waits c.loop-literal.trail (sym c.in_default.is ∙ c.first_waiting.ensures)
 
 pub returns-clause-looks : goal.returns-clause-looks
-returns-clause-looks g c = (let a = looks_all g.L.Lit.table_place (placed g.L.Lit.table_place c.args.arena.now) c.args.trail.now.taken c.loop-literal.trail.taken c.loop-literal.trail.entries in omega (arith, a, c.loop-literal.invariant.cost))
+returns-clause-looks g c = (let a = looks_whole g.L.Lit.table_place (placed g.L.Lit.table_place c.args.arena.now) c.args.trail.now.taken c.loop-literal.trail.taken c.loop-literal.trail.entries in omega (arith, a, c.loop-literal.invariant.cost))
 
 pub returns-in-Some-walk-clause-looks : goal.returns-in-Some-walk-clause-looks
 returns-in-Some-walk-clause-looks g c =
@@ -47,4 +47,4 @@ returns-in-Some-walk-clause-looks g c =
     let other : g.L.Lit.table_place c.negation.result ≡ negation (g.L.Lit.table_place c.in-Some.literal) = ap g.L.Lit.table_place c.negation.ensures ∙ away in
     let first = sym c.in-Some.is ∙ c.first_waiting.ensures in
     let more = looks_more g.L.Lit.table_place (placed g.L.Lit.table_place c.args.arena.now) (placed g.L.Lit.table_place c.loop-literal.arena) (placed g.L.Lit.table_place c.walk.new.arena) c.loop-literal.chains.chains c.args.trail.now c.loop-literal.trail c.walk.new.trail (one_taken c.walk.new.trail) c.in-Some.literal (g.L.Lit.table_place c.negation.result) c.args.looks.now c.loop-literal.looks c.walk.new.looks c.loop-literal.invariant.goes c.walk.ensures.goes c.walk.ensures.taken c.loop-literal.invariant.going.covers.watches c.walk.ensures.apart first other refl c.loop-literal.invariant.goes.taken c.loop-literal.invariant.cost c.walk.ensures.looks in
-    (let a = looks_all g.L.Lit.table_place (placed g.L.Lit.table_place c.args.arena.now) c.args.trail.now.taken (c.walk.new.trail.taken + 1) c.walk.new.trail.entries in omega (arith, a, more))
+    omega (arith, more)

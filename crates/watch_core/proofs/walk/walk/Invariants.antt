@@ -1,11 +1,11 @@
-use Rattle.std.proofs.Common.{◌≡◌, ℕ, ◌+◌, ◌-◌, true, length, List}
+use Rattle.std.proofs.Common.{◌≡◌, ℕ, ◌+◌, true, length, List}
 use Rattle.arena_core.specs.Chains.{chain_at}
 use Rattle.literals_core.specs.Truth.{is_false}
 use Rattle.watch_core.specs.Places.{placed}
 use Rattle.watch_core.specs.Trail.{places, waiting}
 use Rattle.watch_core.specs.Cover.{IsPropagating}
 use Rattle.watch_core.specs.Propagates.{Propagates}
-use Rattle.watch_core.proofs.Steps.{IsWalking}
+use Rattle.watch_core.proofs.StepLemmas.{left_of, IsWalking}
 use Rattle.watch_core.proofs.walk.walk.Given as goal
 
 abbrev pub invariant-loop-current : goal.invariant-loop-current
@@ -19,4 +19,4 @@ invariant-loop-current g l = record {
 }
 
 abbrev pub decreases-loop-current : goal.decreases-loop-current
-decreases-loop-current g l = l.initial.looks + length (chain_at l.initial.chains.chains (g.L.Lit.table_place l.fn.literal)) - l.looks
+decreases-loop-current g l = left_of (chain_at l.chains.chains (g.L.Lit.table_place l.fn.literal)) l.current

@@ -1,7 +1,7 @@
 use Rattle.std.proofs.Common.{ap, refl, ◌∙◌, ◌≡◌, rules}
 use Rattle.literals_core.specs.Literal.{negation}
 use Rattle.watch_core.specs.Trail.{Assignment}
-use Rattle.watch_core.proofs.Assign.{course_assigned, course_room, negation_is, entered_view}
+use Rattle.watch_core.proofs.AssignLemmas.{course_assigned, course_room, negation_is, entered_view}
 use Rattle.watch_core.proofs.TrailLemmas.{keeps_entered, trail_is}
 use Rattle.std.proofs.lemmas.List.{length-set}
 use Rattle.watch_core.proofs.trail.Trail.enter.Goals as goal

@@ -1,6 +1,6 @@
 use Rattle.std.proofs.Common.{ap}
 use Rattle.watch_core.specs.Trail.{Assignment}
-use Rattle.watch_core.proofs.Assign.{value_is_true}
+use Rattle.watch_core.proofs.AssignLemmas.{value_is_true}
 use Rattle.watch_core.proofs.trail.Trail.is_true.Goals as goal
 
 pub returns : goal.returns

@@ -1,6 +1,6 @@
 use Rattle.std.proofs.Common.{ap, refl}
 use Rattle.watch_core.specs.Trail.{Assignment}
-use Rattle.watch_core.proofs.Assign.{value_true, value_false, value_unset}
+use Rattle.watch_core.proofs.AssignLemmas.{value_true, value_false, value_unset}
 use Rattle.watch_core.proofs.trail.Trail.value_at.Goals as goal
 
 pub returns-then-value-eq-TRUE : goal.returns-then-value-eq-TRUE

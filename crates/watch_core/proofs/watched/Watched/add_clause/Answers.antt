@@ -1,6 +1,6 @@
 use Rattle.std.proofs.Common.{ap, ◌≡◌, ◌*◌, length, map, arith}
 use Rattle.watch_core.specs.Watched.{Clauses}
-use Rattle.watch_core.proofs.Adds.{clause_inside, held_added, none_seated, clause_short}
+use Rattle.watch_core.proofs.AddLemmas.{clause_inside, held_added, none_seated, clause_short}
 use Rattle.std.proofs.lemmas.List.{length-map}
 use Rattle.watch_core.proofs.watched.Watched.add_clause.Goals as goal
 

@@ -1,7 +1,7 @@
 use Rattle.std.proofs.Common.{ap, sym, refl, subst, ◌≡◌, inl, None}
 use Rattle.watch_core.specs.Trail.{Assignment, places, value_of}
 use Rattle.watch_core.specs.Watched.{Clauses}
-use Rattle.watch_core.proofs.Held.{held_entered}
+use Rattle.watch_core.proofs.HeldLemmas.{held_entered}
 use Rattle.watch_core.proofs.watched.Watched.assign.Goals as goal
 
 pub invariant_of-self : goal.invariant_of-self

@@ -1,4 +1,4 @@
-use Rattle.watch_core.proofs.Held.{held_new}
+use Rattle.watch_core.proofs.HeldLemmas.{held_new}
 use Rattle.watch_core.proofs.TrailLemmas.{empty_is}
 use Rattle.watch_core.proofs.watched.Watched.new.Goals as goal
 

@@ -1,10 +1,10 @@
 use Rattle.std.proofs.Common.{ap, sym, subst, List}
 use Rattle.watch_core.specs.Places.{placed}
-use Rattle.watch_core.specs.Settled.{CanPropagate}
+use Rattle.watch_core.specs.Rest.{CanPropagate}
 use Rattle.watch_core.specs.Propagates.{AreReordered}
 use Rattle.watch_core.specs.Watched.{Clauses}
-use Rattle.watch_core.proofs.Held.{held_from, going_from, outcome_now}
-use Rattle.watch_core.proofs.Orders.{only_order}
+use Rattle.watch_core.proofs.HeldLemmas.{held_from, going_from, outcome_now}
+use Rattle.watch_core.proofs.OrderLemmas.{only_order}
 use Rattle.watch_core.proofs.watched.Watched.propagate.Goals as goal
 
 pub propagate_all-requires : goal.propagate_all-requires
@@ -20,3 +20,6 @@ pub returns-clause-order : goal.returns-clause-order
 returns-clause-order g c =
     let P : List (List g.row.L.Denot) → Type 0 = λ xs. AreReordered xs c.propagate_all.new.arena in
     subst P (ap (λ (x : Clauses g.row.L.Denot). x.clauses) c.self.view_is) (only_order g.L.Lit.table_place g.met.L.Lit.by_place c.self.inside.arena c.propagate_all.new.arena c.propagate_all.ensures.goes.order)
+
+pub returns-clause-kept : goal.returns-clause-kept
+returns-clause-kept g c = c.propagate_all.ensures.going.covers.trail

@@ -1,6 +1,6 @@
 use Rattle.std.proofs.Common.{ap, ◌≡◌, arith}
 use Rattle.watch_core.specs.Watched.{Clauses}
-use Rattle.watch_core.proofs.Held.{held_undone}
+use Rattle.watch_core.proofs.HeldLemmas.{held_undone}
 use Rattle.watch_core.proofs.watched.Watched.undo_to.Goals as goal
 
 pub invariant_of-self : goal.invariant_of-self

@@ -13,11 +13,11 @@ use Rattle.arena_core.specs.Chains.{chain_at, AreApart}
 use Rattle.literals_core.specs.Literal.{negation}
 use Rattle.watch_core.specs.Looks.{occurrences, false_occurrences}
 use Rattle.watch_core.specs.Trail.{Entry, Assignment, places, waiting, order, one_taken}
-use Rattle.watch_core.proofs.Visit.{first_is}
+use Rattle.watch_core.proofs.VisitLemmas.{first_is}
 use Rattle.std.proofs.lemmas.List.Sorted.{sum_by-IsPermutation}
 use Rattle.watch_core.specs.Cover.{Watches}
 use Rattle.watch_core.specs.Propagates.{AreReordered, Propagates}
-use Rattle.watch_core.proofs.Assign.{not_eqb}
+use Rattle.watch_core.proofs.AssignLemmas.{not_eqb}
 
 -- the seats of one clause that watch a literal
 seats_in : ℕ → List ℕ → ℕ → List ℕ
@@ -131,9 +131,16 @@ looks_more {L} at C0 C C' chains t0 t t' t'' l q looks0 looks looks' go0 go et w
     let same : occurrences C q ≡ occurrences C0 (negation (at e.literal)) = occurs_same C0 C q go0.order ∙ ap (occurrences C0) (eq ∙ ap (λ x. negation (at x)) (sym f.1)) in
     omega (arith, sum, short, same, old, new)
 
--- the cost of the whole
+-- the cost of a front
 pub looks_all : {L : Type 0} (at : L → ℕ) (C0 : List (List ℕ)) (n m : ℕ) (es : List (Entry L)) → false_occurrences C0 (places at (drop n (take m es))) ≤ false_occurrences C0 (places at (drop n es))
 looks_all at C0 zero m es = (let a = sum_by-take-le (λ x. occurrences C0 (negation x)) (places at es) m in let b = ap (false_occurrences C0) (take-map (λ (x : Entry _). at x.literal) m es) in omega (arith, a, b))
 looks_all at C0 (suc n) zero es = omega arith
 looks_all at C0 (suc n) (suc m) [] = omega arith
 looks_all at C0 (suc n) (suc m) (e ∷ es) = looks_all at C0 n m es
+
+-- the cost of the whole, if no false clause ended it
+pub looks_whole : {L : Type 0} (at : L → ℕ) (C0 : List (List ℕ)) (n m : ℕ) (es : List (Entry L)) → false_occurrences C0 (places at (drop n (take m es))) ≤ false_occurrences C0 (places at (drop n (take (m + 1) es)))
+looks_whole at C0 n m es =
+    (let a = looks_all at C0 n m (take (m + 1) es) in
+    let b = ap (λ (xs : List (Entry _)). false_occurrences C0 (places at (drop n xs))) (take-take m (m + 1) es (omega arith)) in
+    omega (arith, a, b))

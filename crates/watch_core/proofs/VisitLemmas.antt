@@ -1,7 +1,7 @@
 -- What one visited seat leaves, and one turn of a walk.
 use Rattle.std.proofs.Common.{◌≡◌, ◌≢◌, ℕ, zero, suc, ◌+◌, ◌-◌, ◌*◌, ◌/◌, ◌%◌, ◌<◌, ◌≤◌, ◌==◌, ◌||◌, not, Bool, true, false, cond, List, [], ◌∷◌, ◌++◌, length, get_or, set, swap, take, drop, Option, None, Some, refl, sym, ◌∙◌, ap, subst, arith, inl, inr, eq-eqb}
 use Rattle.std.specs.List.{All, Contains, slice_get}
-use Rattle.std.proofs.lemmas.List.{length-append, get_or-map, get_or-set_other, get_or_default, append_assoc, get_or_at, drop_more, get_or-take, map-append, append-nil}
+use Rattle.std.proofs.lemmas.List.{length-append, get_or_append_left, get_or-map, get_or-set_other, get_or_default, append_assoc, get_or_at, drop_more, get_or-take, map-append, append-nil}
 use Rattle.std.proofs.lemmas.List.Elements.{Contains-get_or, Contains-push_cases}
 use Rattle.std.proofs.lemmas.List.Sorted.{Contains-permutation, length_permutation}
 use Rattle.std.proofs.lemmas.Bool.{cases_eq, false≢true}
@@ -12,16 +12,16 @@ use Rattle.literals_core.specs.Truth.{is_true, is_false}
 use Rattle.literals_core.proofs.Negation.{negation_twice}
 use Rattle.watch_core.specs.Places.{placed}
 use Rattle.watch_core.specs.Trail.{Entry, Assignment, IsTrail, places, waiting, assigned, order, one_taken}
-use Rattle.watch_core.specs.Settled.{IsClauseFalse, IsFalseClause}
+use Rattle.watch_core.specs.Rest.{IsClauseFalse, IsFalseClause}
 use Rattle.watch_core.specs.Cover.{clause_of, watched_at, beside, Watches, HasTrue, IsPropagating}
 use Rattle.watch_core.specs.Propagates.{AreReordered, Propagates}
 use Rattle.watch_core.specs.Walk.{IsSeat, AllWalked, Visited}
 use Rattle.watch_core.specs.declared.walk.Visit.{Visit}
 use Rattle.watch_core.specs.declared.walk.Visit.TheVariants.{Stays, Moved, False}
-use Rattle.watch_core.proofs.Cover.{now_true}
-use Rattle.watch_core.proofs.Watches.{chain_taken, no_other, drained}
-use Rattle.watch_core.proofs.Going.{covers_moved, going_assigned, going_taken, goes_assigned, goes_order, goes_trans, goes_taken, only_swapped}
-use Rattle.watch_core.proofs.Steps.{row_is, row_at, row_long, placed_swap, waits_true, all_false, others_false, IsWalking}
+use Rattle.watch_core.proofs.CoverLemmas.{now_true}
+use Rattle.watch_core.proofs.WatchLemmas.{chain_taken, no_other, drained}
+use Rattle.watch_core.proofs.GoingLemmas.{covers_moved, going_assigned, going_taken, goes_assigned, goes_order, goes_trans, goes_taken, only_swapped}
+use Rattle.watch_core.proofs.StepLemmas.{row_is, row_at, row_long, placed_swap, waits_true, all_false, others_false, left_from, left_of, left_least, left_next, IsWalking}
 
 -- a list has its k-th element
 has_at : (xs : List ℕ) (k x : ℕ) → k < length xs → get_or xs k 0 ≡ x → Contains xs x
@@ -36,6 +36,30 @@ visit_other at cs s id side clause other ei es ec seat read =
     let lt : 1 - side < length clause = omega (arith, seat.long, n) in
     let here : get_or xs (1 - side) 0 ≡ at other = row_at at xs clause (1 - side) other row lt read in
     (ap (λ k. get_or xs (1 - k) 0) (sym es) ∙ here, has_at xs (1 - side) (at other) (omega (arith, lt, n)) here)
+
+-- the other seat of a clause: it is in a chain, that of the literal beside
+half_of_other : (s o : ℕ) → o ≡ 2 * (s / 2) + (1 - s % 2) → (o / 2 ≡ s / 2) × (o % 2 ≡ 1 - s % 2)
+half_of_other s o e = (omega (arith, e), omega (arith, e))
+
+pub other_seated : (clauses chains : List (List ℕ)) (s o : ℕ) → Watches clauses chains → IsSeat clauses s → o ≡ 2 * (s / 2) + (1 - s % 2) → IsSeated chains o
+other_seated clauses chains s o w seat e =
+    let half : o / 2 ≡ s / 2 = (half_of_other s o e).0 in
+    let row = ap (λ i. length (get_or clauses i [])) half in
+    (watched_at clauses o, w.watched (watched_at clauses o) o (record { known = omega (arith, half, seat.known); long = omega (arith, row, seat.long); at = refl }))
+
+pub beside_is : (clauses chains : List (List ℕ)) (s o p : ℕ) → Watches clauses chains → o ≡ 2 * (s / 2) + (1 - s % 2) → Contains (chain_at chains p) o → p ≡ beside clauses s
+beside_is clauses chains s o p w e has =
+    let half = half_of_other s o e in
+    let is = w.seats p o has in
+    sym is.at ∙ ap (λ i. get_or (get_or clauses i []) (o % 2) 0) half.0 ∙ ap (λ k. get_or (clause_of clauses s) k 0) half.1
+
+pub beside_in : (clauses : List (List ℕ)) (s p : ℕ) → IsSeat clauses s → p ≡ beside clauses s → Contains (clause_of clauses s) p
+beside_in clauses s p seat e = has_at (clause_of clauses s) (1 - s % 2) p (omega (arith, seat.long)) (sym e)
+
+-- the literal beside is the other one of the clause
+pub other_value : {L : Type 0} (at : L → ℕ) (cs : List (List L)) (set : List ℕ) (s id side p : ℕ) (clause : List L) (other : L) (b : Bool) → p ≡ beside (placed at cs) s → id ≡ s / 2 → side ≡ s % 2 → clause ≡ get_or cs id [] → IsSeat (placed at cs) s → other ≡ get_or clause (1 - side) other → is_true set p ≡ b → is_true set (at other) ≡ b
+other_value at cs set' s id side p clause other b e ei es ec seat read known =
+    ap (is_true set') (sym (visit_other at cs s id side clause other ei es ec seat read).0 ∙ sym e) ∙ known
 
 pub visit_inside : {L : Type 0} (at : L → ℕ) (cs : List (List L)) (chains : List (List ℕ)) (t : Assignment L) (s id : ℕ) (clause : List L) → IsPropagating at (placed at cs) chains t → id ≡ s / 2 → clause ≡ get_or cs id []
     → All (λ l. at l < 2 * t.variables) clause
@@ -156,11 +180,36 @@ others_mid s (x ∷ done) r once = elim (eqb_tells x s) [
   | inr other ↦ ap (λ b. cond (not b) (x ∷ others s (done ++ s ∷ r)) (others s (done ++ s ∷ r))) other.0 ∙ ap (λ ys. x ∷ ys) (others_mid s done r (λ j lt h. (let z : suc (length done) ≡ suc j = once (suc j) (omega (arith, lt)) h in omega (arith, z))))
 ]
 
+-- no seat before the next one is the next one
+once : (chain done r : List ℕ) (s : ℕ) → chain ≡ done ++ s ∷ r → ((i j : ℕ) → i < length chain → j < length chain → get_or chain i 0 ≡ get_or chain j 0 → i ≡ j)
+    → (j : ℕ) → j < length done + 1 → 0 < length r → get_or (done ++ s ∷ []) j 0 ≢ get_or r 0 0
+once chain done [] s split apart j lj some e = omega (arith, some)
+once chain done (x ∷ r) s split apart j lj some e =
+    let front : List ℕ = done ++ s ∷ [] in
+    let n = length-append done (s ∷ []) in
+    let whole : chain ≡ front ++ x ∷ r = split ∙ sym (append_assoc done (s ∷ []) (x ∷ r)) in
+    let size = ap length whole in
+    let m = length-append front (x ∷ r) in
+    let a : get_or chain j 0 ≡ get_or front j 0 = ap (λ (ys : List ℕ). get_or ys j 0) whole ∙ get_or_append_left front (x ∷ r) 0 j (omega (arith, lj, n)) in
+    let b : get_or chain (length front) 0 ≡ x = ap (λ (ys : List ℕ). get_or ys (length front) 0) whole ∙ get_or_at front x r 0 (length front) refl in
+    let same = apart j (length front) (omega (arith, lj, n, m, size)) (omega (arith, m, size)) (a ∙ e ∙ sym b) in
+    omega (arith, same, lj, n)
+
+-- fewer seats are left
+fewer : (chain : List ℕ) (chains' : List (List ℕ)) (p s : ℕ) (next : Option ℕ) (done done' r : List ℕ) → chain ≡ done ++ s ∷ r → chain_at chains' p ≡ done' ++ r → next ≡ slice_get r 0
+    → ((j : ℕ) → j < length done' → 0 < length r → get_or done' j 0 ≢ get_or r 0 0) → left_of (chain_at chains' p) next < left_of chain (Some s)
+fewer chain chains' p s next done done' r split split' head apart =
+    let most = left_next done' r next head apart in
+    let now = ap (λ (ys : List ℕ). left_of ys next) split' in
+    let least = left_least done r s in
+    let was = ap (left_from s) split in
+    omega (arith, most, now, least, was)
+
 turn : {L : Type 0} (at : L → ℕ) (C C' chains chains' : List (List ℕ)) (t t' : Assignment L) (p s : ℕ) (next : Option ℕ) (done r : List ℕ) (most looks looks' : ℕ) (v : Visit) → AreApart chains
-    → chain_at chains p ≡ done ++ s ∷ r → ((u : ℕ) → Contains done u → HasTrue (places at t.entries) (clause_of C u)) → looks + suc (length r) ≡ most
+    → chain_at chains p ≡ done ++ s ∷ r → ((u : ℕ) → Contains done u → HasTrue (places at t.entries) (clause_of C u)) → looks + suc (length r) ≤ most
     → ((i : ℕ) → i < length (chain_at chains p) → get_or (chain_at chains p) i 0 ≡ s → next ≡ slice_get (chain_at chains p) (i + 1))
-    → Propagates at C t C' t' → watched_at C s ≡ p → looks' ≡ looks + 1 → Visited at C chains t C' chains' t' s v → (v ≡ False → ⊥)
-    → (done' : List ℕ) × (rest' : List ℕ) × IsWalking (places at t'.entries) C' (chain_at chains' p) next done' rest' most looks'
+    → Propagates at C t C' t' → watched_at C s ≡ p → looks' ≤ looks + 1 → Visited at C chains t C' chains' t' s v → (v ≡ False → ⊥)
+    → (done' : List ℕ) × (rest' : List ℕ) × IsWalking (places at t'.entries) C' (chain_at chains' p) next done' rest' most looks' × (left_of (chain_at chains' p) next < left_of (chain_at chains p) (Some s))
 turn {L} at C C' chains chains' t t' p s next done r most looks looks' v apart split held cost after go sees more out nf =
     let chain : List ℕ = chain_at chains p in
     let n = length-append done (s ∷ r) in
@@ -172,20 +221,22 @@ turn {L} at C C' chains chains' t t' p s next done r most looks looks' v apart s
     cases v out nf head kept lt here
   where
     cases : (v : Visit) → Visited at C chains t C' chains' t' s v → (v ≡ False → ⊥) → next ≡ slice_get r 0 → ((u : ℕ) → Contains done u → HasTrue (places at t'.entries) (clause_of C' u)) → length done < length (chain_at chains p) → get_or (chain_at chains p) (length done) 0 ≡ s
-        → (done' : List ℕ) × (rest' : List ℕ) × IsWalking (places at t'.entries) C' (chain_at chains' p) next done' rest' most looks'
-    cases Stays out nf head kept lt here = (
-      done ++ s ∷ [],
-      r,
-      record {
-        split = ap (λ (cs : List (List ℕ)). chain_at cs p) out.0 ∙ split ∙ sym (append_assoc done (s ∷ []) r);
-        head = head;
-        held = λ u h. elim (Contains-push_cases done s u h) [
-          | inl old ↦ kept u old
-          | inr new ↦ (let P : ℕ → Type 0 = λ y. HasTrue (places at t'.entries) (clause_of C' y) in subst P new out.1)
-        ];
-        cost = omega (arith, cost, more);
-      },
-    )
+        → (done' : List ℕ) × (rest' : List ℕ) × IsWalking (places at t'.entries) C' (chain_at chains' p) next done' rest' most looks' × (left_of (chain_at chains' p) next < left_of (chain_at chains p) (Some s))
+    cases Stays out nf head kept lt here =
+        (let same : chain_at chains' p ≡ (done ++ s ∷ []) ++ r = ap (λ (cs : List (List ℕ)). chain_at cs p) out.0 ∙ split ∙ sym (append_assoc done (s ∷ []) r) in (
+          done ++ s ∷ [],
+          r,
+          record {
+            split = same;
+            head = head;
+            held = λ u h. elim (Contains-push_cases done s u h) [
+              | inl old ↦ kept u old
+              | inr new ↦ (let P : ℕ → Type 0 = λ y. HasTrue (places at t'.entries) (clause_of C' y) in subst P new out.1)
+            ];
+            cost = omega (arith, cost, more);
+          },
+          fewer (chain_at chains p) chains' p s next done (done ++ s ∷ []) r split same head (λ j lj some. once (chain_at chains p) done r s split (λ i k li lk e. (apart p i p k li lk e).1) j (let n = length-append done (s ∷ []) in omega (arith, lj, n)) some),
+        ))
     cases Moved out nf head kept lt here =
         (let left : chain_at chains' p ≡ others s (chain_at chains p) = ap (λ (cs : List (List ℕ)). chain_at cs p) out.2 ∙ get_or-set_other (taken_out chains s) out.0 p (s ∷ chain_at (taken_out chains s) out.0) [] (λ e. out.1 (sym e ∙ sym sees)) ∙ chain_taken chains s p in (
           done,
@@ -196,14 +247,17 @@ turn {L} at C C' chains chains' t t' p s next done r most looks looks' v apart s
             held = kept;
             cost = omega (arith, cost, more);
           },
+          fewer (chain_at chains p) chains' p s next done done r split
+              (left ∙ ap (others s) split ∙ others_mid s done r (λ j lj h. (apart p (length done) p j lt (let k = ap length split in omega (arith, k, lj)) (here ∙ sym (ap (λ (ys : List ℕ). get_or ys j 0) split ∙ h))).1)) head
+              (λ j lj some. λ e. once (chain_at chains p) done r s split (λ i k li lk e. (apart p i p k li lk e).1) j (omega (arith, lj)) some (get_or_append_left done (s ∷ []) 0 j lj ∙ e)),
         ))
     cases False out nf head kept lt here = absurd (nf refl)
 
 pub walk_turn : {L : Type 0} (at : L → ℕ) (C C' chains chains' : List (List ℕ)) (t t' : Assignment L) (p s : ℕ) (current next : Option ℕ) (most looks looks' : ℕ) (v : Visit) → AreApart chains
     → ((done : List ℕ) × (rest : List ℕ) × IsWalking (places at t.entries) C (chain_at chains p) current done rest most looks) → current ≡ Some s
     → ((i : ℕ) → i < length (chain_at chains p) → get_or (chain_at chains p) i 0 ≡ s → next ≡ slice_get (chain_at chains p) (i + 1))
-    → Propagates at C t C' t' → watched_at C s ≡ p → looks' ≡ looks + 1 → Visited at C chains t C' chains' t' s v → (v ≡ False → ⊥)
-    → (done' : List ℕ) × (rest' : List ℕ) × IsWalking (places at t'.entries) C' (chain_at chains' p) next done' rest' most looks'
+    → Propagates at C t C' t' → watched_at C s ≡ p → looks' ≤ looks + 1 → Visited at C chains t C' chains' t' s v → (v ≡ False → ⊥)
+    → (done' : List ℕ) × (rest' : List ℕ) × IsWalking (places at t'.entries) C' (chain_at chains' p) next done' rest' most looks' × (left_of (chain_at chains' p) next < left_of (chain_at chains p) (Some s))
 walk_turn {L} at C C' chains chains' t t' p s current next most looks looks' v apart (done, rest, w) e after go sees more out nf =
     let first = walk_seat (places at t.entries) C (chain_at chains p) current done rest most looks s w e in
     let size = ap length first.1 in
@@ -218,9 +272,6 @@ walk_ends set clauses chains p current most looks h (done, rest, w) e s known lo
     let all : chain_at chains p ≡ done = w.split ∙ ap (λ ys. done ++ ys) none' ∙ append-nil done in
     let P : List ℕ → Type 0 = λ ys. Contains ys s in
     w.held s (subst P all (h.watched p s (record { known = known; long = long; at = sees })))
-
-pub walk_most : (set : List ℕ) (clauses : List (List ℕ)) (chain : List ℕ) (current : Option ℕ) (most looks s : ℕ) → ((done : List ℕ) × (rest : List ℕ) × IsWalking set clauses chain current done rest most looks) → current ≡ Some s → looks < most
-walk_most set clauses chain current most looks s (done, rest, w) e = (let f = ap length (walk_seat set clauses chain current done rest most looks s w e).1 in omega (arith, f, w.cost))
 
 -- waiting literals
 pub first_waits : {L : Type 0} (at : L → ℕ) (t : Assignment L) (l : L) (q : ℕ) → Some l ≡ slice_get (order (waiting t)) 0 → negation q ≡ at l → is_false (places at (waiting t)) q ≡ true

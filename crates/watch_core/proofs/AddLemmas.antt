@@ -3,12 +3,11 @@ use Rattle.std.proofs.Common.{◌≡◌, ◌≢◌, ℕ, zero, suc, ◌+◌, ◌
 use Rattle.std.specs.List.{All, Contains, IsDistinct}
 use Rattle.std.proofs.lemmas.List.{length-append, length-map, length-set, map-append, get_or_append_left, get_or_at, get_or_past, get_or_default, get_or-set_same, get_or-set_other, get_or-map, set_past}
 use Rattle.std.proofs.lemmas.List.Elements.{All-contains}
-use Rattle.std.proofs.lemmas.Map.Keys.{IsDistinct-from_apart}
 use Rattle.std.proofs.lemmas.Map.Steps.{length-le_from_distinct_below}
 use Rattle.std.proofs.lemmas.Bool.{cases_eq, cases_lt, false≢true}
 use Rattle.std.proofs.lemmas.Bool.Decides.{eqb_tells, leb_tells}
 use Rattle.arena_core.specs.Chains.{chain_at, put_first, IsSeated}
-use Rattle.literals_core.specs.Literal.{negation}
+use Rattle.literals_core.specs.Literal.{variable_of, negation}
 use Rattle.literals_core.specs.Truth.{is_true, is_false, open_literals}
 use Rattle.literals_core.proofs.Truth.{open_more, open_skip}
 use Rattle.watch_core.specs.Places.{placed}
@@ -17,9 +16,9 @@ use Rattle.watch_core.specs.Cover.{IsWatch, Watches, HasTrue, AllBut, IsCovered}
 use Rattle.watch_core.specs.Added.{CanAdd, NotAfter, both_put, standing_of, standing_open}
 use Rattle.watch_core.specs.Watched.{IsHeld}
 use Rattle.watch_core.specs.declared.added.Standing.TheVariants.{Free, Unit, False}
-use Rattle.watch_core.proofs.Assign.{not_eqb, distinct_from, below_any}
-use Rattle.watch_core.proofs.Levels.{kept_in, left_out}
-use Rattle.watch_core.proofs.Going.{cut_false}
+use Rattle.watch_core.proofs.AssignLemmas.{distinct_from, below_any}
+use Rattle.watch_core.proofs.LevelLemmas.{kept_in, left_out}
+use Rattle.watch_core.proofs.GoingLemmas.{cut_false, distinct_variables}
 
 -- a literal that is true under a cut has an entry there
 entry_in : {L : Type 0} (at : L → ℕ) (es : List (Entry L)) (k l : ℕ) (d : Entry L) → is_true (places at (cut es k)) l ≡ true → (b : ℕ) × (b < length es) × (at (get_or es b d).literal ≡ l) × ((get_or es b d).level ≤ k)
@@ -47,7 +46,7 @@ in_entry {L} at (e ∷ es) k l (suc a) d lt is low = elim (leb_tells e.level k) 
     or_right true b h = refl
     or_right false b h = h
 
-entry_of_true : {L : Type 0} (at : L → ℕ) (es : List (Entry L)) (l : ℕ) (d : Entry L) → is_true (places at es) l ≡ true → (b : ℕ) × (b < length es) × (at (get_or es b d).literal ≡ l)
+pub entry_of_true : {L : Type 0} (at : L → ℕ) (es : List (Entry L)) (l : ℕ) (d : Entry L) → is_true (places at es) l ≡ true → (b : ℕ) × (b < length es) × (at (get_or es b d).literal ≡ l)
 entry_of_true at [] l d h = absurd (false≢true h)
 entry_of_true {L} at (e ∷ es) l d h = elim (eqb_tells (at e.literal) l) [
   | inl same ↦ (0, omega arith, same.1)
@@ -230,7 +229,7 @@ covers_added {L} at C chains x t h can rest =
           let W : List (Entry L) → Type 0 = λ es. AllBut (places at (cut t.entries k)) (places at (cut es k)) x (get_or x (1 - s % 2) 0) in
           row_cases C x (s / 2) D (λ lt. h.covered k lk s lt) (λ same long' f' away'. inr (subst W (sym rest) (new_covered at t x k (s % 2) can long' (omega arith) f'), λ e. absurd (false≢true e))) (λ long' f' away'. absurd (omega (arith, long'))) long f away);
       inside = λ c l. row_cases C x c (λ xs. Contains xs l → l < 2 * t.variables) (λ lt. h.inside c l) (λ same has. All-contains (λ l. l < 2 * t.variables) x l can.inside has) (λ has. absurd (omega (arith, has.1)));
-      distinct = λ c. row_cases C x c (λ xs. IsDistinct (λ x y. x == y) xs) (λ lt. h.distinct c) (λ same. IsDistinct-from_apart (λ x y. x == y) x (λ i j d lij lj. not_eqb (get_or x i d) (get_or x j d) (λ e. can.apart i j lij lj (ap (λ n. n / 2) (sym (get_or_default x i d 0 (omega (arith, lij, lj))) ∙ e ∙ get_or_default x j d 0 lj))))) tt;
+      distinct = λ c. row_cases C x c (λ xs. IsDistinct (λ x y. variable_of x == variable_of y) xs) (λ lt. h.distinct c) (λ same. distinct_variables x can.apart) tt;
       size = both_size chains (length C) x ∙ h.size;
     }
 

@@ -1,13 +1,14 @@
 -- One visited seat, and a chain as it is walked.
-use Rattle.std.proofs.Common.{◌≡◌, ◌≢◌, ℕ, zero, suc, ◌+◌, ◌-◌, ◌%◌, ◌<◌, ◌≤◌, ◌==◌, ◌||◌, ◌&&◌, Bool, true, false, cond, List, [], ◌∷◌, ◌++◌, length, map, get_or, set, swap, drop, Option, None, Some, refl, sym, ◌∙◌, ap, arith, inl, inr}
+use Rattle.std.proofs.Common.{◌≡◌, ◌≢◌, ℕ, zero, suc, ◌+◌, ◌-◌, ◌%◌, ◌<◌, ◌≤◌, ◌==◌, ◌||◌, ◌&&◌, Bool, true, false, cond, List, [], ◌∷◌, ◌++◌, length, map, get_or, set, swap, drop, Option, None, Some, refl, sym, ◌∙◌, ap, arith, inl, inr, eq-eqb}
 use Rattle.std.specs.List.{Contains, list_all, slice_get}
-use Rattle.std.proofs.lemmas.List.{length-map, get_or-map, get_or_past, map-set}
-use Rattle.std.proofs.lemmas.Bool.{cases_lt}
+use Rattle.std.proofs.lemmas.List.{length-append, length-map, get_or-map, get_or_past, map-set}
+use Rattle.std.proofs.lemmas.Bool.{cases_eq, cases_lt}
 use Rattle.literals_core.specs.Truth.{is_true, is_false}
 use Rattle.watch_core.specs.Places.{placed}
 use Rattle.watch_core.specs.Trail.{Entry, Assignment, places, waiting, value_of}
-use Rattle.watch_core.specs.Settled.{IsClauseFalse}
+use Rattle.watch_core.specs.Rest.{IsClauseFalse}
 use Rattle.watch_core.specs.Cover.{clause_of, HasTrue}
+use Rattle.watch_core.proofs.AssignLemmas.{not_eqb}
 
 pub placed_row : {L : Type 0} (at : L → ℕ) (cs : List (List L)) (i : ℕ) → get_or (placed at cs) i [] ≡ map at (get_or cs i [])
 placed_row at cs i = elim (cases_lt i (length cs)) [
@@ -64,9 +65,42 @@ others_false at set xs clause s side d e es f rest i lt ne = elim (cases_lt i 2)
 pub free_of : (set : List ℕ) (p : ℕ) → is_true set p ≡ false → is_false set p ≡ false → value_of set p ≡ None
 free_of set p a b = ap (λ x. cond x (Some true) (cond (is_false set p) (Some false) None)) a ∙ ap (λ x. cond x (Some false) None) b
 
+-- how many seats a chain has from one on
+abbrev pub left_from : ℕ → List ℕ → ℕ
+left_from s [] = 0
+left_from s (x ∷ xs) = cond (x == s) (suc (length xs)) (left_from s xs)
+
+abbrev pub left_of : List ℕ → Option ℕ → ℕ
+left_of chain None = 0
+left_of chain (Some s) = left_from s chain
+
+left_here : (s x : ℕ) (xs : List ℕ) → x ≡ s → left_from s (x ∷ xs) ≡ suc (length xs)
+left_here s x xs e = ap (λ b. cond b (suc (length xs)) (left_from s xs)) (eq-eqb x s e)
+
+left_there : (s x : ℕ) (xs : List ℕ) → x ≢ s → left_from s (x ∷ xs) ≡ left_from s xs
+left_there s x xs ne = ap (λ b. cond b (suc (length xs)) (left_from s xs)) (not_eqb x s ne)
+
+pub left_least : (done r : List ℕ) (s : ℕ) → suc (length r) ≤ left_from s (done ++ s ∷ r)
+left_least [] r s = (let e = left_here s s r refl in omega (arith, e))
+left_least (x ∷ done) r s = elim (cases_eq x s) [
+  | inl same ↦ (let e = left_here s x (done ++ s ∷ r) same in let n = length-append done (s ∷ r) in omega (arith, e, n))
+  | inr other ↦ (let e = left_there s x (done ++ s ∷ r) other in let rest = left_least done r s in omega (arith, e, rest))
+]
+
+left_most : (done r : List ℕ) (s : ℕ) → ((j : ℕ) → j < length done → get_or done j 0 ≢ s) → left_from s (done ++ s ∷ r) ≡ suc (length r)
+left_most [] r s apart = left_here s s r refl
+left_most (x ∷ done) r s apart = left_there s x (done ++ s ∷ r) (apart 0 (omega arith)) ∙ left_most done r s (λ j lt. apart (suc j) (omega (arith, lt)))
+
+pub left_next : (done r : List ℕ) (next : Option ℕ) → next ≡ slice_get r 0 → ((j : ℕ) → j < length done → 0 < length r → get_or done j 0 ≢ get_or r 0 0) → left_of (done ++ r) next ≤ length r
+left_next done [] next e apart = (let z : left_of (done ++ []) next ≡ 0 = ap (left_of (done ++ [])) e in omega (arith, z))
+left_next done (x ∷ r) next e apart =
+    (let z : left_of (done ++ x ∷ r) next ≡ left_from x (done ++ x ∷ r) = ap (left_of (done ++ x ∷ r)) e in
+    let m = left_most done r x (λ j lt. apart j lt (omega arith)) in
+    omega (arith, z, m))
+
 -- a chain as it is walked: the seats that stay, then those that are left
 pub record IsWalking (set : List ℕ) (clauses : List (List ℕ)) (chain : List ℕ) (current : Option ℕ) (done rest : List ℕ) (most looks : ℕ) : Type 0 where
   pub split : chain ≡ done ++ rest
   pub head : current ≡ slice_get rest 0
   pub held : (s : ℕ) → Contains done s → HasTrue set (clause_of clauses s)
-  pub cost : looks + length rest ≡ most
+  pub cost : looks + length rest ≤ most

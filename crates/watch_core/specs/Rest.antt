@@ -17,7 +17,10 @@ SettledBelow at t clauses = (level : ℕ) → level < t.level → AllSettled (pl
 -- on the whole trail each clause is settled, or has the negation of a waiting literal
 abbrev pub SettledOrWaits : {L : Type 0} → (L → ℕ) → Assignment L → List (List ℕ) → Type 0
 SettledOrWaits at t clauses =
-    All (λ clause. 2 ≤ length clause → IsSettledByCount (places at t.entries) clause ⊎ (list_any (λ l. is_true (places at (waiting t)) (negation l)) clause ≡ true)) clauses
+    All (λ clause.
+    2 ≤ length clause
+    → IsSettledByCount (places at t.entries) clause
+    ⊎ (list_any (λ l. is_true (places at (waiting t)) (negation l)) clause ≡ true)) clauses
 
 -- all literals of a clause are false
 abbrev pub IsClauseFalse : List ℕ → List ℕ → Type 0
@@ -29,7 +32,7 @@ pub record CanPropagate {L : Type 0} (at : L → ℕ) (t : Assignment L) (clause
   pub below : SettledBelow at t clauses
   pub whole : SettledOrWaits at t clauses
 
--- what `propagate` leaves where it comes to rest
+-- what `propagate` leaves if it comes to rest
 pub record IsAtRest {L : Type 0} (at : L → ℕ) (t : Assignment L) (clauses : List (List ℕ)) : Type 0 where
   pub none_waits : waiting t ≡ []
   pub below : SettledBelow at t clauses
@@ -41,13 +44,13 @@ pub record IsFalseClause (set : List ℕ) (clauses : List (List ℕ)) (id : ℕ)
   pub long : 2 ≤ length (slice_index_or clauses id [])
   pub literals : IsClauseFalse set (slice_index_or clauses id [])
 
--- what it leaves where it met a false clause
+-- what it leaves if it met a false clause
 pub record IsInConflict {L : Type 0} (at : L → ℕ) (t : Assignment L) (clauses : List (List ℕ)) (id : ℕ) : Type 0 where
   pub clause : IsFalseClause (places at t.entries) clauses id
   pub current : All (λ (e : Entry L). e.level ≡ t.level) (waiting t)
   pub below : SettledBelow at t clauses
 
--- None where propagation came to rest, else the number of a false clause
+-- None if propagation came to rest, else the number of a false clause
 abbrev pub Outcome : {L : Type 0} → (L → ℕ) → Assignment L → List (List ℕ) → Option ℕ → Type 0
 Outcome at t clauses None = IsAtRest at t clauses
 Outcome at t clauses (Some id) = IsInConflict at t clauses id

@@ -10,10 +10,10 @@ use Rattle.literals_core.specs.Literal.{negation}
 use Rattle.literals_core.specs.Truth.{is_true, is_false}
 use Rattle.literals_core.specs.Settled.{IsSettledByCount}
 use Rattle.literals_core.proofs.Truth.{open_more}
-use Rattle.watch_core.specs.Settled.{AllSettled}
+use Rattle.watch_core.specs.Rest.{AllSettled}
 use Rattle.watch_core.specs.Cover.{clause_of, watched_at, beside, HasTrue, AllBut, AllCovered}
-use Rattle.watch_core.proofs.Assign.{more_true, or_none, not_eqb}
-use Rattle.watch_core.proofs.Watches.{swap_first, swap_other}
+use Rattle.watch_core.proofs.AssignLemmas.{more_true, or_none, not_eqb}
+use Rattle.watch_core.proofs.WatchLemmas.{swap_first, swap_other}
 
 pub true_or_false : (b : Bool) → (b ≡ true) ⊎ (b ≡ false)
 true_or_false true = inl refl

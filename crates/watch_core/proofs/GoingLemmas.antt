@@ -1,24 +1,25 @@
 -- How the facts inside propagation go on: a seat moves, a literal becomes true, a literal has been taken in.
 use Rattle.std.proofs.Common.{◌≡◌, ◌≢◌, ℕ, suc, ◌+◌, ◌*◌, ◌/◌, ◌%◌, ◌<◌, ◌≤◌, ◌==◌, ◌||◌, Bool, true, false, List, [], ◌∷◌, ◌++◌, length, get_or, set, swap, take, drop, Option, Some, refl, sym, ◌∙◌, ap, subst, arith, inl, inr, ◌⊎◌, eq-eqb, leb}
-use Rattle.std.specs.List.{All, Contains}
+use Rattle.std.specs.List.{All, Contains, IsDistinct}
 use Rattle.std.specs.List.Sorted.{IsPermutation}
-use Rattle.std.proofs.lemmas.List.{length-set, length-append, map-append, get_or-set_same, get_or-set_other, take_all, drop-append-le, take_at, get_or_at, take-take, get_or-take, drop_more, append-nil}
+use Rattle.std.proofs.lemmas.List.{length-set, length-append, map-append, get_or-set_same, get_or-set_other, take_all, drop-append-le, take_at, get_or_at, get_or_default, take-take, get_or-take, drop_more, append-nil}
 use Rattle.std.proofs.lemmas.List.Elements.{Contains-get_or, filter-append, All-drop, All-contains_itself, All-weaker, All-push}
 use Rattle.std.proofs.lemmas.List.Sorted.{Contains-permutation, All-permutation, IsPermutation-swap, IsPermutation-refl, IsPermutation-sym, IsPermutation-trans}
-use Rattle.std.proofs.lemmas.Map.Keys.{IsDistinct-IsPermutation}
+use Rattle.std.proofs.lemmas.Map.Keys.{IsDistinct-IsPermutation, IsDistinct-from_apart, apart_from_distinct}
 use Rattle.std.proofs.lemmas.Bool.{cases_eq, cases_lt, false≢true}
 use Rattle.std.proofs.lemmas.Bool.Decides.{eqb_tells, leb_tells}
 use Rattle.arena_core.specs.Chains.{put_first, taken_out}
-use Rattle.literals_core.specs.Literal.{negation}
+use Rattle.literals_core.specs.Literal.{variable_of, negation}
 use Rattle.literals_core.specs.Truth.{is_true, is_false}
+use Rattle.watch_core.specs.Places.{HasDistinctVariables}
 use Rattle.watch_core.specs.Trail.{Entry, Assignment, IsTrail, places, cut, waiting, entered, assigned, one_taken}
-use Rattle.watch_core.specs.Settled.{SettledBelow, IsAtRest}
+use Rattle.watch_core.specs.Rest.{SettledBelow, IsAtRest}
 use Rattle.watch_core.specs.Cover.{clause_of, watched_at, HasTrue, AllCovered, IsCovered, IsPropagating}
 use Rattle.watch_core.specs.Propagates.{AreReordered, Propagates, IsReason}
-use Rattle.watch_core.proofs.Assign.{not_eqb}
-use Rattle.watch_core.proofs.Levels.{cut_all, cut_none, left_out, kept_in}
-use Rattle.watch_core.proofs.Watches.{watches_moved, places_kept}
-use Rattle.watch_core.proofs.Cover.{true_or_false, covered_more, covered_taken, covered_moved, all_settled}
+use Rattle.watch_core.proofs.AssignLemmas.{not_eqb}
+use Rattle.watch_core.proofs.LevelLemmas.{cut_all, cut_none, left_out, kept_in}
+use Rattle.watch_core.proofs.WatchLemmas.{watches_moved, places_kept}
+use Rattle.watch_core.proofs.CoverLemmas.{true_or_false, covered_more, covered_taken, covered_moved, all_settled}
 
 -- what is true under a cut is true
 pub cut_true : {L : Type 0} (at : L → ℕ) (es : List (Entry L)) (k l : ℕ) → is_true (places at (cut es k)) l ≡ true → is_true (places at es) l ≡ true
@@ -64,6 +65,21 @@ eqb_flips x y = elim (eqb_tells x y) [
   | inr other ↦ other.0 ∙ sym (not_eqb y x (λ e. other.1 (sym e)))
 ]
 
+-- clauses of distinct variables, by places; and their literals are distinct
+pub variables_apart : (clause : List ℕ) → IsDistinct (λ x y. variable_of x == variable_of y) clause → HasDistinctVariables clause
+variables_apart clause distinct i j lij lj e =
+    false≢true (sym (apart_from_distinct (λ x y. variable_of x == variable_of y) clause i j 0 distinct lij lj) ∙ eq-eqb (variable_of (get_or clause i 0)) (variable_of (get_or clause j 0)) e)
+
+pub distinct_variables : (clause : List ℕ) → HasDistinctVariables clause → IsDistinct (λ x y. variable_of x == variable_of y) clause
+distinct_variables clause apart =
+    IsDistinct-from_apart (λ x y. variable_of x == variable_of y) clause (λ i j d lij lj. not_eqb (variable_of (get_or clause i d)) (variable_of (get_or clause j d))
+    (λ e. apart i j lij lj (ap variable_of (sym (get_or_default clause i d 0 (omega (arith, lij, lj)))) ∙ e ∙ ap variable_of (get_or_default clause j d 0 lj))))
+
+pub distinct_literals : (clause : List ℕ) → IsDistinct (λ x y. variable_of x == variable_of y) clause → IsDistinct (λ x y. x == y) clause
+distinct_literals clause distinct =
+    IsDistinct-from_apart (λ x y. x == y) clause (λ i j d lij lj. not_eqb (get_or clause i d) (get_or clause j d)
+    (λ e. variables_apart clause distinct i j lij lj (ap variable_of (sym (get_or_default clause i d 0 (omega (arith, lij, lj))) ∙ e ∙ get_or_default clause j d 0 lj))))
+
 -- a seat moves to a literal that is not false
 pub covers_moved : {L : Type 0} (strong : Bool) (at : L → ℕ) (clauses chains : List (List ℕ)) (t : Assignment L) (s j g : ℕ) → IsCovered strong at clauses chains t → s / 2 < length clauses → 2 ≤ j → j < length (clause_of clauses s) → g ≡ get_or (clause_of clauses s) j 0
     → is_false (places at t.entries) g ≡ false → is_false (places at t.entries) (watched_at clauses s) ≡ true
@@ -79,7 +95,7 @@ covers_moved strong at clauses chains t s j g h known far lj eg open' isfalse =
       watches = watches_moved clauses chains s j g h.watches known far lj eg (omega (arith, eg, inside, h.size));
       covered = λ k lk. covered_moved strong (places at (cut t.entries k)) (places at (cut (waiting t) k)) clauses s j known far lj (cut_false at t.entries k (negation (get_or xs j 0)) open'') (λ e. false≢true (sym open'' ∙ ap (is_false (places at t.entries)) e ∙ isfalse)) (h.covered k lk);
       inside = λ c l m. h.inside c l (Contains-permutation (get_or (set clauses (s / 2) (swap xs (s % 2) j)) c []) (get_or clauses c []) l (IsPermutation-sym (get_or clauses c []) (get_or (set clauses (s / 2) (swap xs (s % 2) j)) c []) (only.same c)) m);
-      distinct = λ c. IsDistinct-IsPermutation (λ x y. x == y) eqb_flips (get_or clauses c []) (get_or (set clauses (s / 2) (swap xs (s % 2) j)) c []) (only.same c) (h.distinct c);
+      distinct = λ c. IsDistinct-IsPermutation (λ x y. variable_of x == variable_of y) (λ x y. eqb_flips (variable_of x) (variable_of y)) (get_or clauses c []) (get_or (set clauses (s / 2) (swap xs (s % 2) j)) c []) (only.same c) (h.distinct c);
       size = places_kept chains (put_first (taken_out chains s) g s) g s (2 * t.variables) refl h.size;
     }
 
@@ -209,17 +225,20 @@ goes_assigned {L} at clauses t l id known has rest =
       );
     }
 
+-- a reason stays one, if its clause keeps its literals and the entries up to its own stay
+pub reason_moves : {L : Type 0} (at : L → ℕ) (b c : List (List ℕ)) (t' t'' : Assignment L) (i id : ℕ) → id < length c → IsPermutation (get_or b id []) (get_or c id []) → ((d : Entry L) → get_or t'.entries i d ≡ get_or t''.entries i d) → take i t'.entries ≡ take i t''.entries → IsReason at t' b i id
+    → IsReason at t'' c i id
+reason_moves {L} at b c t' t'' i id known order same before r = record {
+  known = known;
+  has = λ d. (let P : Entry L → Type 0 = λ x. Contains (get_or c id []) (at x.literal) in subst P (same d) (Contains-permutation (get_or b id []) (get_or c id []) (at (get_or t'.entries i d).literal) order (r.has d)));
+  false_before = λ d. (let P : Entry L → Type 0 = λ x. All (λ l. (l ≡ at x.literal) ⊎ (is_false (places at (take i t''.entries)) l ≡ true)) (get_or c id []) in
+      let Q : List (Entry L) → Type 0 = λ es. All (λ l. (l ≡ at (get_or t'.entries i d).literal) ⊎ (is_false (places at es) l ≡ true)) (get_or c id []) in
+      subst P (same d) (subst Q before (All-permutation (λ l. (l ≡ at (get_or t'.entries i d).literal) ⊎ (is_false (places at (take i t'.entries)) l ≡ true)) (get_or b id []) (get_or c id []) order (r.false_before d))));
+}
+
 reason_later : {L : Type 0} (at : L → ℕ) (b c : List (List ℕ)) (t' t'' : Assignment L) (i id : ℕ) → AreReordered b c → i < length t'.entries → take (length t'.entries) t''.entries ≡ t'.entries → IsReason at t' b i id → IsReason at t'' c i id
 reason_later {L} at b c t' t'' i id o lt kept r =
-    let same : (d : Entry L) → get_or t'.entries i d ≡ get_or t''.entries i d = λ d. ap (λ (es : List (Entry L)). get_or es i d) (sym kept) ∙ get_or-take (length t'.entries) t''.entries i d lt in
-    let before : take i t'.entries ≡ take i t''.entries = ap (take i) (sym kept) ∙ take-take i (length t'.entries) t''.entries (omega (arith, lt)) in
-    record {
-      known = omega (arith, r.known, o.count);
-      has = λ d. (let P : Entry L → Type 0 = λ x. Contains (get_or c id []) (at x.literal) in subst P (same d) (Contains-permutation (get_or b id []) (get_or c id []) (at (get_or t'.entries i d).literal) (o.same id) (r.has d)));
-      false_before = λ d. (let P : Entry L → Type 0 = λ x. All (λ l. (l ≡ at x.literal) ⊎ (is_false (places at (take i t''.entries)) l ≡ true)) (get_or c id []) in
-          let Q : List (Entry L) → Type 0 = λ es. All (λ l. (l ≡ at (get_or t'.entries i d).literal) ⊎ (is_false (places at es) l ≡ true)) (get_or c id []) in
-          subst P (same d) (subst Q before (All-permutation (λ l. (l ≡ at (get_or t'.entries i d).literal) ⊎ (is_false (places at (take i t'.entries)) l ≡ true)) (get_or b id []) (get_or c id []) (o.same id) (r.false_before d))));
-    }
+    reason_moves at b c t' t'' i id (omega (arith, r.known, o.count)) (o.same id) (λ d. ap (λ (es : List (Entry L)). get_or es i d) (sym kept) ∙ get_or-take (length t'.entries) t''.entries i d lt) (ap (take i) (sym kept) ∙ take-take i (length t'.entries) t''.entries (omega (arith, lt))) r
 
 pub goes_trans : {L : Type 0} (at : L → ℕ) (a b c : List (List ℕ)) (t t' t'' : Assignment L) → Propagates at a t b t' → Propagates at b t' c t'' → Propagates at a t c t''
 goes_trans {L} at a b c t t' t'' x y =

@@ -14,14 +14,14 @@ use Rattle.literals_core.proofs.Truth.{tested_true}
 use Rattle.literals_core.proofs.Settled.{two_by_count}
 use Rattle.watch_core.specs.Places.{placed}
 use Rattle.watch_core.specs.Trail.{Entry, Assignment, IsTrail, places, cut, waiting, value_of, entered, undone, empty_trail}
-use Rattle.watch_core.specs.Settled.{IsFalseClause, CanPropagate, Outcome}
+use Rattle.watch_core.specs.Rest.{IsFalseClause, CanPropagate, Outcome}
 use Rattle.watch_core.specs.Cover.{clause_of, beside, HasTrue, AllBut, AllCovered, IsCovered, IsPropagating}
 use Rattle.watch_core.specs.Propagates.{Propagates}
 use Rattle.watch_core.specs.Watched.{IsHeld}
-use Rattle.watch_core.proofs.Assign.{value_none}
-use Rattle.watch_core.proofs.Levels.{cut_all, cut_cut, cut_is, waits_cut}
-use Rattle.watch_core.proofs.Cover.{any_to}
-use Rattle.watch_core.proofs.Going.{covers_entered, weaker, settled_below, at_rest_now}
+use Rattle.watch_core.proofs.AssignLemmas.{value_none}
+use Rattle.watch_core.proofs.LevelLemmas.{cut_all, cut_cut, cut_is, waits_cut}
+use Rattle.watch_core.proofs.CoverLemmas.{any_to}
+use Rattle.watch_core.proofs.GoingLemmas.{distinct_literals, covers_entered, weaker, settled_below, at_rest_now}
 
 -- no clauses
 no_row : {A : Type 0} (n i : ℕ) → get_or (replicate n (let e : List A = [] in e)) i [] ≡ []
@@ -137,7 +137,7 @@ going_from {L} at clauses chains t h can = record {
     trail = h.trail;
     watches = h.watches;
     covered = λ q lq s known long f away.
-        strong_one (places at (cut t.entries q)) (places at (cut (waiting t) q)) (clause_of clauses s) (beside clauses s) (h.distinct (s / 2)) (elim (cases_lt q t.level) [
+        strong_one (places at (cut t.entries q)) (places at (cut (waiting t) q)) (clause_of clauses s) (beside clauses s) (distinct_literals (clause_of clauses s) (h.distinct (s / 2))) (elim (cases_lt q t.level) [
           | inl less ↦ inl (can.below q less (s / 2) [] known long)
           | inr top ↦ (let same : t.level ≡ q = omega (arith, top, lq) in
               let P : ℕ → Type 0 = λ k. IsSettledByCount (places at (cut t.entries k)) (clause_of clauses s) ⊎ (list_any (λ l. is_true (places at (cut (waiting t) k)) (negation l)) (clause_of clauses s) ≡ true) in

@@ -5,7 +5,7 @@ use Rattle.std.proofs.lemmas.List.Edits.{length-swap}
 use Rattle.std.specs.List.Sorted.{IsPermutation, SwapsInRange, apply_swaps}
 use Rattle.watch_core.specs.Places.{placed}
 use Rattle.watch_core.specs.Propagates.{AreReordered}
-use Rattle.watch_core.proofs.Steps.{map_swap, placed_row}
+use Rattle.watch_core.proofs.StepLemmas.{map_swap, placed_row}
 
 same_from_places : {L : Type 0} (at : L → ℕ) → ((l m : L) → at l ≡ at m → l ≡ m) → (xs ys : List L) → map at xs ≡ map at ys → xs ≡ ys
 same_from_places at one' [] [] e = refl
