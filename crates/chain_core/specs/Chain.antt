@@ -22,13 +22,12 @@ pub data Chains (clauses : List (List ℕ)) : List ℕ → List ℕ → Type 0 w
   ends : {set hints clause : List ℕ} {h : ℕ} → clause_at clauses h ≡ Some clause → All (IsFalseUnder set) clause → Chains clauses set (h ∷ hints)
   adds : {set hints clause : List ℕ} {h l : ℕ} → clause_at clauses h ≡ Some clause → IsOnlyOpen set clause l → Chains clauses (l ∷ set) hints → Chains clauses set (h ∷ hints)
 
--- the same as a computation: no open literal ends the chain; one, which may stand several times, is the next to be set;
--- two different ones fail
+-- the same as a computation: no open literal ends the chain, one (maybe repeated) is the next to be set, and two different ones fail
 abbrev pub after_open : List ℕ → (ℕ → Bool) → Bool
 after_open [] next = true
 after_open (l ∷ ls) next = list_all (λ x. x == l) ls && next l
 
--- where there is no such clause the chain fails
+-- without such a clause the chain fails
 abbrev pub after_clause : List ℕ → Option (List ℕ) → (ℕ → Bool) → Bool
 after_clause set None next = false
 after_clause set (Some clause) next = after_open (open_literals set clause) next

@@ -60,7 +60,7 @@ ends_empty [] = false
 ends_empty (lemma ∷ []) = length lemma.literals == 0
 ends_empty (lemma ∷ next ∷ lemmas) = ends_empty (next ∷ lemmas)
 
--- why a log is no refutation; the first lemma stands on line 2
+-- why a log is no refutation; the first lemma is on line 2
 abbrev pub refutation_fault : Cnf → List Lemma → Option CheckFault
 refutation_fault formula log =
     or_else (first_fault formula.variables formula.clauses 2 log) (if ends_empty log then None else Some NotEmpty)

@@ -3,10 +3,8 @@ use Rattle.std.specs.Prelude.{ℕ, ◌+◌, ◌*◌, ◌==◌, ◌&&◌, ◌||�
 use Rattle.std.specs.List.{slice_split}
 use Rattle.std.specs.Str.{all_ascii_digits, bytes_eq}
 use Rattle.std.specs.Str.Parse.{digits_value}
-use Rattle.chain_core.specs.declared.literal.TheConstants.{MOST_PLACE}
-use Rattle.chain_core.specs.declared.number.TheConstants.{MOST_ID}
-use Rattle.chain_core.specs.declared.encoding.Encoding.{Encoding}
-use Rattle.chain_core.specs.declared.encoding.Encoding.TheVariants.{Separation}
+use Rattle.literals_core.specs.declared.encoding.Encoding.{Encoding}
+use Rattle.literals_core.specs.declared.encoding.Encoding.TheVariants.{Coalitions, Separation}
 use Rattle.chain_core.specs.declared.fault.LogFault.{LogFault}
 use Rattle.chain_core.specs.declared.fault.LogFault.TheVariants.{Header, Shape}
 use Rattle.chain_core.specs.declared.log.Lemma.{Lemma}
@@ -15,17 +13,17 @@ use Rattle.chain_core.specs.declared.log.Lemma.{Lemma}
 abbrev pub words_of : List ℕ → List (List ℕ)
 words_of line = slice_split (λ b. b == 32) line
 
--- the parts of a text between its line feeds: where each line is ended, the last part is empty
+-- the parts of a text between its line feeds: the last part is empty if every line is ended
 abbrev pub lines_of : List ℕ → List (List ℕ)
 lines_of text = slice_split (λ b. b == 10) text
 
--- the number of at most 32 bits that a word writes, in digits without a leading zero
+-- the number of at most 32 bits that a word writes: digits without a leading zero
 abbrev pub number_in : List ℕ → Option ℕ
 number_in word =
-    if nat_lt 0 (length word) && all_ascii_digits word && (length word == 1 || not (slice_index word 0 == 48)) && nat_le (digits_value 10 word) MOST_ID then Some (digits_value 10 word)
+    if nat_lt 0 (length word) && all_ascii_digits word && (length word == 1 || not (slice_index word 0 == 48)) && nat_le (digits_value 10 word) 4294967295 then Some (digits_value 10 word)
     else None
 
--- twice the number that a word writes, and one more where a `-` stands before it: the place of a literal, or 0 at the word `0`
+-- twice the number that a word writes, and one more after a `-`: the place of a literal, or 0 for the word `0`
 abbrev pub place_in : List ℕ → Option ℕ
 place_in [] = None
 place_in (c ∷ word) = if c == 45 then option_map (λ v. 2 * v + 1) (number_in word) else option_map (λ v. 2 * v) (number_in (c ∷ word))
@@ -34,7 +32,7 @@ abbrev pub hints_then : Option ℕ → List (List ℕ) → Option (List ℕ) →
 hints_then None words more = None
 hints_then (Some h) words more = if h == 0 then (if length words == 0 then Some [] else None) else option_map (λ hints. h ∷ hints) more
 
--- hints, and the word `0` at the end of the line
+-- hints and the word `0`, which ends the line
 abbrev pub hints_in : List (List ℕ) → Option (List ℕ)
 hints_in [] = None
 hints_in (word ∷ words) = hints_then (number_in word) words (hints_in words)
@@ -43,7 +41,7 @@ abbrev pub literals_then : Option ℕ → Option (List ℕ) → Option (List ℕ
 literals_then None hints more = None
 literals_then (Some l) hints more =
     if l == 0 then option_map (λ hs. ([], hs)) hints
-    else (if nat_le 2 l && nat_le l MOST_PLACE then option_map (λ m. (l ∷ m.0, m.1)) more else None)
+    else (if nat_le 2 l && nat_le l 4294967295 then option_map (λ m. (l ∷ m.0, m.1)) more else None)
 
 -- literals and the word `0`, and then hints
 abbrev pub literals_in : List (List ℕ) → Option (List ℕ × List ℕ)
@@ -76,7 +74,9 @@ lemmas_in line (part ∷ next ∷ parts) = lemmas_then line (lemma_in part) (lem
 
 -- the encoding that the first line names
 abbrev pub encoding_in : List ℕ → Option Encoding
-encoding_in line = if bytes_eq line (codes "lincs-refutation 1 separation") then Some Separation else None
+encoding_in line =
+    if bytes_eq line (codes "lincs-refutation 1 coalitions") then Some Coalitions
+    else (if bytes_eq line (codes "lincs-refutation 1 separation") then Some Separation else None)
 
 abbrev pub log_then : Option Encoding → Result (List Lemma) LogFault → Result (Encoding × List Lemma) LogFault
 log_then None lemmas = Err Header

@@ -15,7 +15,7 @@ pub data LemmaFails (variables : ℕ) (known : List (List ℕ)) (lemma : Lemma) 
   other_hint : lemma.id ≡ length known + 1 → All (λ l. variable_of l ≤ variables) lemma.literals → Any (λ h. (h ≡ 0) ⊎ (lemma.id ≤ h)) lemma.hints → LemmaFails variables known lemma line (Hint line)
   no_chain : lemma.id ≡ length known + 1 → All (λ l. variable_of l ≤ variables) lemma.literals → All (λ h. (1 ≤ h) × (h < lemma.id)) lemma.hints → ¬ Chains known (map negation lemma.literals) lemma.hints → LemmaFails variables known lemma line (Chain line)
 
--- a lemma fails, and those before it are good; the first lemma stands on line 2
+-- a lemma fails, and those before it are good; the first lemma is on line 2
 pub record FailsFirst (formula : Cnf) (log : List Lemma) (fault : CheckFault) : Type 0 where
   pub earlier : List Lemma
   pub lemma : Lemma

@@ -4,8 +4,8 @@ use Rattle.std.specs.List.{flat_map, join_with_byte}
 use Rattle.literals_core.specs.Literal.{variable_of}
 use Rattle.chain_core.specs.Literal.{has_minus}
 use Rattle.literals_core.specs.Formula.{Cnf}
-use Rattle.chain_core.specs.declared.encoding.Encoding.{Encoding}
-use Rattle.chain_core.specs.declared.encoding.Encoding.TheVariants.{Separation}
+use Rattle.literals_core.specs.declared.encoding.Encoding.{Encoding}
+use Rattle.literals_core.specs.declared.encoding.Encoding.TheVariants.{Coalitions, Separation}
 use Rattle.chain_core.specs.declared.log.Lemma.{Lemma}
 
 -- a line: words with single spaces between them, and a line feed
@@ -15,7 +15,7 @@ line_of words = join_with_byte 32 words ++ 10 ∷ []
 abbrev pub sign_text : ℕ → List ℕ
 sign_text l = if has_minus l then codes "-" else []
 
--- a literal is written as its variable, after a `-` where its sign is minus
+-- a literal is written as its variable, with a `-` in front if its sign is minus
 abbrev pub literal_word : ℕ → List ℕ
 literal_word l = sign_text l ++ decimal (variable_of l)
 
@@ -35,6 +35,7 @@ abbrev pub lemma_words : Lemma → List (List ℕ)
 lemma_words lemma = decimal lemma.id ∷ (clause_words lemma.literals ++ (map decimal lemma.hints ++ codes "0" ∷ []))
 
 abbrev pub encoding_word : Encoding → List ℕ
+encoding_word Coalitions = codes "coalitions"
 encoding_word Separation = codes "separation"
 
 abbrev pub header_words : Encoding → List (List ℕ)

@@ -1,8 +1,8 @@
--- Why a text is no log, by the texts of logs.
+-- Why a text is no log, said by the texts of logs.
 use Rattle.std.specs.Prelude.{ℕ, ◌≡◌, ◌≢◌, ◌+◌, List, [], ◌++◌, length, All}
 use Rattle.chain_core.specs.Lemma.{IsWritable}
 use Rattle.chain_core.specs.Text.{line_of, header_words, lemma_words, log_text}
-use Rattle.chain_core.specs.declared.encoding.Encoding.{Encoding}
+use Rattle.literals_core.specs.declared.encoding.Encoding.{Encoding}
 use Rattle.chain_core.specs.declared.log.Lemma.{Lemma}
 use Rattle.chain_core.specs.declared.fault.LogFault.{LogFault}
 use Rattle.chain_core.specs.declared.fault.LogFault.TheVariants.{Header, Shape, NoMemory}

@@ -1,29 +1,29 @@
-//! How the hints of a lemma are followed.
+//! Follows the hints of a lemma.
 //!
 //! The set of literals that a chain keeps is a table of stamps with a place for each literal: a
-//! literal is false where its stamp is that of the lemma. So nothing is cleared between lemmas.
+//! literal is false if its stamp is that of the lemma. So nothing is cleared between lemmas.
 ghost use Rattle.std.specs.Prelude.{◌≡◌, Bool, ℕ, List, not, ◌==◌, ◌+◌, ◌<◌, ◌≤◌, length, map, filter, Contains, All, Some, slice_index};
 ghost use Rattle.literals_core.specs.Literal.{negation};
 ghost use Rattle.chain_core.specs.Chain.{after_open, chain_from, clause_at};
 ghost use Rattle.chain_core.specs.Log.{known_before};
-ghost use Rattle.chain_core.specs.Stamps.{IsMarked, IfOne, standing_answer};
+ghost use Rattle.chain_core.specs.Stamps.{IsMarked, IfOne, open_answer};
 
 use crate::formula::Formula;
 use crate::literal::Literal;
 use crate::log::Log;
 
-/// How a clause stands: how many distinct literals are not false.
+/// The distinct literals of a clause that are not false.
 #[derive(Clone, Copy)]
-pub enum Standing {
+pub enum OpenLiterals {
     AllFalse,
     One(Literal),
     Several,
 }
 
-/// Looks for the literals of a clause that are not false, up to the second distinct one.
-fn standing_of(clause: &[Literal], stamps: &[u32], stamp: u32) -> Standing
+/// Looks for the literals of a clause that are not false, up to a second distinct one.
+fn open_literals_of(clause: &[Literal], stamps: &[u32], stamp: u32) -> OpenLiterals
     requires { All (λ l. l < length stamps.now) clause.now }
-    ensures answer { (next : ℕ → Bool) → after_open (filter (λ l. not (slice_index stamps.now l == stamp)) clause.now) next ≡ standing_answer result next }
+    ensures answer { (next : ℕ → Bool) → after_open (filter (λ l. not (slice_index stamps.now l == stamp)) clause.now) next ≡ open_answer result next }
     ensures among { IfOne result (Contains clause.now) }
 {
     let mut found: Option<Literal> = None;
@@ -33,15 +33,15 @@ fn standing_of(clause: &[Literal], stamps: &[u32], stamp: u32) -> Standing
                 None => found = Some(*literal),
                 Some(other) => {
                     if other != *literal {
-                        return Standing::Several;
+                        return OpenLiterals::Several;
                     }
                 }
             }
         }
     }
     match found {
-        None => Standing::AllFalse,
-        Some(literal) => Standing::One(literal),
+        None => OpenLiterals::AllFalse,
+        Some(literal) => OpenLiterals::One(literal),
     }
 }
 
@@ -57,7 +57,7 @@ pub fn mark_all(literals: &[Literal], stamps: &mut [u32], stamp: u32)
     }
 }
 
-/// The clause of an id: one of the formula's, or a lemma's.
+/// The clause of an id: one of the formula, or the literals of a lemma.
 fn known_clause<'a>(formula: &'a Formula, log: &'a Log, id: u32) -> &'a [Literal]
     requires from { 1 ≤ id }
     requires to { id ≤ length formula.now.clauses + length log.now }
@@ -72,7 +72,7 @@ fn known_clause<'a>(formula: &'a Formula, log: &'a Log, id: u32) -> &'a [Literal
     }
 }
 
-/// Whether these hints of the lemma at place `k` lead to a false clause, from the set that the stamps mark.
+/// Returns whether these hints of the lemma at place `k` lead to a false clause from the set that the stamps mark.
 pub fn follow(
     formula: &Formula,
     log: &Log,
@@ -90,10 +90,10 @@ pub fn follow(
 {
     for hint in hints {
         let clause = known_clause(formula, log, *hint);
-        match standing_of(clause, stamps, stamp) {
-            Standing::AllFalse => return true,
-            Standing::One(literal) => stamps[literal.negated().place()] = stamp,
-            Standing::Several => return false,
+        match open_literals_of(clause, stamps, stamp) {
+            OpenLiterals::AllFalse => return true,
+            OpenLiterals::One(literal) => stamps[literal.negated().place()] = stamp,
+            OpenLiterals::Several => return false,
         }
     }
     false

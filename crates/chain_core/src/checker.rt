@@ -1,4 +1,4 @@
-//! The checker: which logs refute a formula.
+//! Checks which logs refute a formula.
 ghost use Rattle.std.specs.Prelude.{◌≡◌, ◌↔◌, ◌==◌, ◌||◌, nat_lt, nat_le, ◌+◌, ◌*◌, ◌<◌, ◌≤◌, ◌⊎◌, length, MatchResult, All, OnOk, Some, None};
 ghost use Rattle.std.specs.Bool.{OnFalse};
 ghost use Rattle.std.specs.List.{list_any};
@@ -35,7 +35,7 @@ impl Model for Accepted {
 }
 
 impl Accepted {
-    /// The log.
+    /// The log that was checked.
     pub fn log(&self) -> &Log
         ensures { result.now ≡ self.now }
     {
@@ -43,11 +43,12 @@ impl Accepted {
     }
 }
 
-/// Accepts a log exactly where it is a refutation of the formula, and else answers the first line
-/// that fails and how. A formula with a refutation has no values that make every clause true.
+/// Accepts a log exactly when it is a refutation of the formula, and else returns the first line
+/// that fails and how. No values make every clause of a formula with a refutation true.
 ///
-/// The log is dropped where it is refused.
-#[tactic(auto, using(crate::proofs::GoodFacts::refutation_law))]
+/// A refused log is dropped. One table with two places for each variable takes memory. Time is linear in the
+/// lengths of the lemmas and of the clauses that their hints name.
+#[tactic(auto, using(crate::proofs::GoodLemmas::refutation_law))]
 pub fn check(alloc: Global, formula: &Formula, log: Log) -> Result<Accepted, CheckFault>
     ensures answer { MatchResult result (λ accepted. (accepted ≡ log) × IsRefutation formula.now log)
         (λ fault. (fault ≡ NoMemory) ⊎ (refutation_fault formula.now log ≡ Some fault)) }
@@ -124,7 +125,7 @@ fn check_lemma(
     }
 }
 
-/// Whether a literal is of a variable above this one.
+/// Returns whether a literal is of a variable above this one.
 pub fn has_higher(literals: &[Literal], variables: u32) -> bool
     ensures value { result ≡ list_any (λ l. nat_lt variables (variable_of l)) literals.now }
     ensures bounded { OnFalse result (All (λ l. variable_of l ≤ variables) literals.now) }
@@ -132,7 +133,7 @@ pub fn has_higher(literals: &[Literal], variables: u32) -> bool
     literals.iter().any(|l| variables < l.variable())
 }
 
-/// Whether a hint is 0, or not below this id.
+/// Returns whether a hint is 0, or not below this id.
 fn has_other_hint(hints: &[u32], id: u32) -> bool
     ensures value { result ≡ list_any (λ h. h == 0 || nat_le id h) hints.now }
     ensures bounded { OnFalse result (All (λ h. (1 ≤ h) × (h < id)) hints.now) }
@@ -140,7 +141,7 @@ fn has_other_hint(hints: &[u32], id: u32) -> bool
     hints.iter().any(|h| *h == 0 || id <= *h)
 }
 
-/// Whether there is a last lemma and it is empty.
+/// Returns whether there is a last lemma and it is empty.
 fn has_empty_end(log: &Log) -> bool
     ensures { result ≡ ends_empty log.now }
 {

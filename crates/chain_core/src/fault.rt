@@ -7,20 +7,19 @@ use thiserror::Error;
 /// Why a text is no log.
 #[derive(Clone, Copy, Debug, PartialEq, Eq, Error)]
 pub enum LogFault {
-    /// The first line, with its line end, is not one that names an encoding.
+    /// The first line, with its line end, names no encoding.
     #[error("no header of a refutation")]
     Header,
-    /// The first line after the header that is not a lemma with its line end, where the header is
-    /// line 1.
+    /// The first line after the header that is not a lemma with its line end. The header is line 1.
     #[error("line {0}: not a lemma")]
     Shape(u32),
-    /// The allocator gave no memory.
+    /// Memory ran out.
     #[error("out of memory")]
     NoMemory,
 }
 
-/// Why a log is no refutation of a formula. The line is that of the first lemma that fails, where
-/// the first lemma stands on line 2.
+/// Why a log is no refutation of a formula. The line is that of the first lemma that fails; the
+/// first lemma is on line 2.
 #[derive(Clone, Copy, Debug, PartialEq, Eq, Error)]
 pub enum CheckFault {
     /// The lemma's id is not the number of clauses before it plus 1.
@@ -38,7 +37,7 @@ pub enum CheckFault {
     /// Each lemma is good, and the last is not empty or there is none.
     #[error("no empty lemma at the end")]
     NotEmpty,
-    /// The allocator gave no memory.
+    /// Memory ran out.
     #[error("out of memory")]
     NoMemory,
 }

@@ -1,4 +1,4 @@
-//! Formulas.
+//! Formulas in conjunctive normal form.
 ghost use Rattle.std.specs.Prelude.{◌≡◌, ◌∷◌, ◌++◌, [], length, OnOk, OnErr, ◌<◌, ◌≤◌, ◌+◌, All, Some};
 ghost use Rattle.literals_core.specs.Literal.{variable_of};
 ghost use Rattle.chain_core.specs.Chain.{clause_at};
@@ -9,8 +9,8 @@ use rows_core::Rows;
 use std::alloc::{AllocError, Global};
 use std::marker::Model;
 
-/// The most clauses of a formula: their ids, and those of two billion lemmas after them, fit 32 bits.
-/// A longer log is refused at the first lemma whose id doesn't fit.
+/// The most clauses of a formula. Their ids and those of two billion lemmas after them fit in 32 bits; a
+/// longer log is refused at the first lemma whose id does not fit.
 pub const MOST_CLAUSES: u32 = 2_000_000_000;
 
 /// A number of variables and a list of clauses.
@@ -21,7 +21,8 @@ pub struct Formula {
 }
 
 impl Model for Formula {
-    ghost use Rattle.std.specs.Prelude.{length, ◌≤◌};
+    ghost use Rattle.std.specs.Prelude.{length, ◌≤◌, All};
+    ghost use Rattle.literals_core.specs.Literal.{variable_of};
     ghost use Rattle.literals_core.specs.Formula.{Cnf, InRange};
     ghost use Rattle.chain_core.specs.declared.literal.TheConstants.{GREATEST_VARIABLE};
     ghost use Rattle.chain_core.specs.declared.formula.TheConstants.{MOST_CLAUSES};
@@ -30,7 +31,7 @@ impl Model for Formula {
 
     ghost view = { λ a. record { variables = a.variables; clauses = a.clauses } };
 
-    ghost invariant = { λ a. (a.variables ≤ GREATEST_VARIABLE) × (length a.clauses ≤ MOST_CLAUSES) × InRange a.variables a.clauses };
+    ghost invariant = { λ a. (a.variables ≤ GREATEST_VARIABLE) × (length a.clauses ≤ MOST_CLAUSES) × InRange a.variables a.clauses × All (All (λ l. 1 ≤ variable_of l)) a.clauses };
 }
 
 impl Formula {
@@ -46,7 +47,7 @@ impl Formula {
         }
     }
 
-    /// Puts a clause last. Want of memory leaves the formula as it was.
+    /// Puts a clause last. If memory runs out, the formula stays as it was.
     pub fn add(&mut self, literals: &[Literal]) -> Result<(), AllocError>
         requires range { All (λ l. variable_of l ≤ self.old.variables) literals.now }
         requires room { length self.old.clauses < MOST_CLAUSES }
@@ -54,6 +55,7 @@ impl Formula {
         ensures ok { OnOk result (self.new.clauses ≡ self.old.clauses ++ literals.now ∷ []) }
         ensures err { OnErr result (self.new.clauses ≡ self.old.clauses) }
     {
+        show_variables(literals);
         self.clauses.push(literals)
     }
 
@@ -75,12 +77,22 @@ impl Formula {
         self.clauses.count() as u32
     }
 
-    /// The clause of this id, from 1.
+    /// The clause of this id, from 1. Its variables are from 1 to [`Formula::variables`].
     pub fn clause(&self, id: u32) -> &[Literal]
         requires from { 1 ≤ id }
         requires to { id ≤ length self.now.clauses }
-        ensures { clause_at self.now.clauses id ≡ Some result.now }
+        ensures clause { clause_at self.now.clauses id ≡ Some result.now }
+        ensures variables { All (λ l. (1 ≤ variable_of l) × (variable_of l ≤ self.now.variables)) result.now }
     {
         self.clauses.row((id - 1) as usize)
+    }
+}
+
+/// Shows that the variables of literals are from 1 on. Literals are made so, and contracts of slices do not say it.
+fn show_variables(literals: &[Literal])
+    ensures { All (λ l. 1 ≤ variable_of l) literals.now }
+{
+    for literal in literals {
+        let _variable = literal.variable();
     }
 }

@@ -3,7 +3,6 @@
 
 mod chain;
 mod checker;
-mod encoding;
 mod fault;
 mod formula;
 mod laws;
@@ -14,11 +13,14 @@ mod read;
 mod write;
 
 pub use checker::{Accepted, check};
-pub use encoding::Encoding;
 pub use fault::{CheckFault, LogFault};
 pub use formula::{Formula, MOST_CLAUSES};
-pub use laws::{computed_chain_is_a_chain, fresh_lemma_is_no_weaker_copy};
+pub use laws::{
+    computed_chain_is_a_chain, fresh_lemma_is_no_weaker_copy, limits_are_these_numbers,
+    propagation_gives_no_fresh_lemma, refutation_means_unsatisfiable,
+};
 pub use literal::{GREATEST_VARIABLE, Literal};
+pub use literals_core::Encoding;
 pub use log::{Hints, Lemma, Literals, Log};
 pub use read::{MOST_BYTES, read_log};
 pub use write::{put_dimacs, write_log};

@@ -5,7 +5,7 @@ ghost use Rattle.chain_core.specs.Literal.{has_minus, number_of};
 
 use std::marker::Model;
 
-/// The greatest variable, so that twice a variable and one more fits 32 bits.
+/// The greatest variable: twice a variable and one more fits in 32 bits.
 pub const GREATEST_VARIABLE: u32 = 2_147_483_647;
 
 /// The greatest place: twice the greatest variable, and one more.
@@ -13,7 +13,7 @@ pub const MOST_PLACE: u32 = 4_294_967_295;
 
 /// A variable from 1 to [`GREATEST_VARIABLE`] and a sign.
 ///
-/// Contracts see its place: twice its variable, and one more where its sign is minus.
+/// Contracts see its place: twice its variable, and one more if its sign is minus.
 #[derive(Clone, Copy, PartialEq, Eq)]
 pub struct Literal {
     place: u32,
@@ -32,11 +32,11 @@ impl Model for Literal {
 }
 
 impl Literal {
-    /// The literal that a number writes: the variable, negative where the sign is minus. None
-    /// exactly for 0 and the least number.
+    /// The literal that a number writes: its variable, negative if the sign is minus. None exactly
+    /// for 0 and the least `i32`.
     pub fn of(number: i32) -> Option<Literal>
         ensures value { IfSome result (λ l. number_of l ≡ number) }
-        ensures none { IsNone result ↔ ((number ≡ pos 0) ⊎ (number ≡ negsuc GREATEST_VARIABLE)) }
+        ensures none { IsNone result ↔ ((number ≡ pos 0) ⊎ (number ≡ negsuc 2147483647)) }
     {
         if number > 0 {
             Some(Literal {
@@ -71,7 +71,7 @@ impl Literal {
         }
     }
 
-    /// The place of the literal in a table with two places for each variable from 0 on.
+    /// The place of the literal in a table that has two places for each variable from 0 on.
     pub fn place(self) -> usize
         ensures { result ≡ self }
     {
@@ -87,7 +87,7 @@ impl Literal {
         self.place / 2
     }
 
-    /// Whether the sign is minus.
+    /// Returns whether the sign is minus.
     pub fn has_minus(self) -> bool
         ensures { result ≡ has_minus self }
     {

@@ -51,7 +51,7 @@ impl Log {
         }
     }
 
-    /// Puts a lemma last. Want of memory leaves the log as it was, and drops the lemma.
+    /// Puts a lemma last. If memory runs out, the log stays as it was and the lemma is dropped.
     pub fn add(&mut self, lemma: Lemma) -> Result<(), AllocError>
         requires numbered { IsNumbered lemma }
         requires room { length self.old < MOST_ITEMS }

@@ -1,11 +1,11 @@
-//! The word at the front of a text, as a number or as a literal.
+//! Reads the word at the front of a text, as a number or as a literal.
 ghost use Rattle.std.specs.Prelude.{◌≡◌, ◌≢◌, ◌==◌, ◌∷◌, ◌||◌, not, ◌+◌, ◌<◌, ◌≤◌, length, min, take, slice_index, MatchOption, false, ⊤};
 ghost use Rattle.std.specs.Char.{is_ascii_digit};
 ghost use Rattle.std.specs.Str.Parse.{AllDigits, digits_value};
 ghost use Rattle.chain_core.specs.Reading.{number_in, place_in};
 ghost use Rattle.chain_core.specs.Front.{StartsWith, StartsWithOther};
 
-/// The greatest id, so that ids fit 32 bits.
+/// The greatest id: ids fit in 32 bits.
 pub const MOST_ID: u64 = 4_294_967_295;
 
 /// A word that was read: its value, and how many bytes it has.
@@ -64,8 +64,7 @@ fn after_minus(text: &[u8]) -> Option<&[u8]>
     Some(&text[1..])
 }
 
-/// The digits at the front of a text, and their value, or 1 above the greatest id where it is
-/// greater.
+/// The digits at the front of a text, and their value, capped at 1 above the greatest id.
 fn front_digits(text: &[u8]) -> Front
     ensures within { result.len ≤ length text.now }
     ensures digits { AllDigits 10 (take result.len text.now) }
@@ -81,7 +80,7 @@ fn front_digits(text: &[u8]) -> Front
     Front { value, len }
 }
 
-/// Whether a word ends at this place: at a space, or at the end of the text.
+/// Returns whether a word ends at this place: at a space, or at the end of the text.
 fn ends_word(text: &[u8], len: usize) -> bool
     requires { len ≤ length text.now }
     ensures { result ≡ (length text.now == len || slice_index text.now len == 32) }
@@ -89,7 +88,7 @@ fn ends_word(text: &[u8], len: usize) -> bool
     text.len() == len || text[len] == b' '
 }
 
-/// Whether a word begins with `0` and goes on.
+/// Returns whether a word begins with `0` and goes on.
 fn has_leading_zero(word: &[u8]) -> bool
     requires { 0 < length word.now }
     ensures { result ≡ not (length word.now == 1 || not (slice_index word.now 0 == 48)) }
@@ -97,7 +96,7 @@ fn has_leading_zero(word: &[u8]) -> bool
     word.len() != 1 && word[0] == b'0'
 }
 
-/// The number of a word of digits, whose value is given, where it has no leading zero and fits an id.
+/// The number of a word of digits, whose value is given, if it has no leading zero and fits an id.
 fn number_of(word: &[u8], value: u64) -> Option<u64>
     requires digits { AllDigits 10 word.now }
     requires value { value ≡ min (digits_value 10 word.now) (MOST_ID + 1) }

@@ -1,37 +1,37 @@
-//! Logs are read from their texts.
+//! Reads logs from their texts.
 ghost use Rattle.std.specs.Prelude.{◌≡◌, ◌==◌, ◌⊎◌, ◌+◌, ◌<◌, ◌≤◌, ℕ, List, [], ◌∷◌, ◌++◌, ◌↔◌, All, length, drop, vec_len, MatchResult, IfOk, Ok, Err, Some, None, option_map, position};
 ghost use Rattle.lists_core.specs.declared.list_of.TheConstants.{MOST_ITEMS};
 ghost use Rattle.chain_core.specs.Lemma.{IsNumbered, IsWritable};
 ghost use Rattle.chain_core.specs.Reading.{words_of, lines_of, hints_in, literals_in, lemma_in, lemmas_in, encoding_in, log_of};
 ghost use Rattle.chain_core.specs.Text.{log_text};
-ghost use Rattle.chain_core.specs.declared.encoding.Encoding.{Encoding};
+ghost use Rattle.literals_core.specs.declared.encoding.Encoding.{Encoding};
 ghost use Rattle.chain_core.specs.declared.log.Lemma.{Lemma};
 ghost use Rattle.chain_core.specs.Unread.{IsUnread};
 ghost use Rattle.chain_core.specs.declared.fault.LogFault.{LogFault};
 ghost use Rattle.chain_core.specs.declared.fault.LogFault.TheVariants.{Shape, NoMemory};
 
-use crate::encoding::Encoding;
 use crate::fault::LogFault;
 use crate::literal::{Literal, MOST_PLACE};
 use crate::log::{Lemma, Log};
 use crate::number::{front_number, front_place};
 use lists_core::ListOf;
+use literals_core::Encoding;
 use std::alloc::{AllocError, Global};
 
 /// The most bytes of a text that is read: 64 MiB.
 pub const MOST_BYTES: usize = 67_108_864;
 
-/// Reads the text of a log: its encoding and its lemmas.
+/// Reads the text of a log: its encoding and its lemmas. Time is linear in the length of the text.
 pub fn read_log(alloc: Global, bytes: &[u8]) -> Result<(Encoding, Log), LogFault>
-    requires { length bytes.now ≤ MOST_BYTES }
+    requires { length bytes.now ≤ 67108864 }
     ensures answer { MatchResult result (λ read. log_of bytes.now ≡ Ok read)
         (λ fault. (fault ≡ NoMemory) ⊎ (log_of bytes.now ≡ Err fault)) }
 
-    // It is read exactly where it is the text of an encoding and of lemmas with numbers in their limits.
+    // A text is read exactly when it is that of an encoding and of lemmas with numbers within their limits.
     ensures text { (encoding : Encoding) (log : List Lemma)
         → (log_of bytes.now ≡ Ok (encoding, log)) ↔ ((bytes.now ≡ log_text encoding log) × All IsWritable log) }
 
-    // And refused where it does not begin with the line of an encoding, or at the first line after that is not a lemma's.
+    // It is refused if it does not begin with the line of an encoding, or else at the first line that is not a lemma's.
     ensures cause { (fault : LogFault) → (log_of bytes.now ≡ Err fault) ↔ IsUnread bytes.now fault }
 {
     let Some(end) = line_end(bytes) else {
@@ -55,7 +55,9 @@ fn line_end(text: &[u8]) -> Option<usize>
 fn encoding_of(line: &[u8]) -> Option<Encoding>
     ensures { result ≡ encoding_in line.now }
 {
-    if line == b"lincs-refutation 1 separation".as_slice() {
+    if line == b"lincs-refutation 1 coalitions".as_slice() {
+        Some(Encoding::Coalitions)
+    } else if line == b"lincs-refutation 1 separation".as_slice() {
         Some(Encoding::Separation)
     } else {
         None
@@ -121,7 +123,7 @@ fn read_lemma(
     })
 }
 
-/// Reads literals up to the word `0`, and answers where the hints begin.
+/// Reads literals up to the word `0`, and returns where the hints begin.
 fn read_literals(
     text: &[u8],
     from: usize,
@@ -185,7 +187,7 @@ fn read_hints(text: &[u8], from: usize, line: u32, hints: &mut Vec<u32>) -> Resu
     }
 }
 
-/// The items as a list that has room for no more.
+/// The items as a list without spare room.
 fn exact_list<T: Copy>(alloc: Global, items: &[T]) -> Result<ListOf<T>, AllocError>
     requires { length items.now ≤ MOST_ITEMS }
     ensures { IfOk result (λ list. list ≡ items.now) }

@@ -1,4 +1,4 @@
-//! The texts of formulas and of logs.
+//! Writes the texts of formulas and of logs.
 ghost use Rattle.std.specs.Prelude.{◌≡◌, [], ◌∷◌, ◌++◌, ◌≤◌, codes, decimal, All, OnOk, Ok};
 ghost use Rattle.std.specs.List.{flat_map};
 ghost use Rattle.lists_core.specs.Puts.{Puts};
@@ -8,14 +8,14 @@ ghost use Rattle.chain_core.specs.Reading.{log_of};
 ghost use Rattle.chain_core.specs.declared.number.TheConstants.{MOST_ID};
 ghost use Rattle.chain_core.specs.Text.{line_of, sign_text, literal_word, size_words, clause_words, dimacs_text, lemma_words, header_words, log_text};
 
-use crate::encoding::Encoding;
 use crate::formula::Formula;
 use crate::literal::Literal;
 use crate::log::{Lemma, Log};
 use itoa::Buffer;
+use literals_core::Encoding;
 use std::alloc::AllocError;
 
-/// Appends a formula in the DIMACS format. Where memory runs out, part of the text was appended.
+/// Appends the text of a formula in the DIMACS format. If memory runs out, a prefix of the text was appended.
 pub fn put_dimacs(formula: &Formula, out: &mut Vec<u8>) -> Result<(), AllocError>
     ensures text { Puts out.old.items out.new.items result (dimacs_text formula.now) }
 {
@@ -23,7 +23,7 @@ pub fn put_dimacs(formula: &Formula, out: &mut Vec<u8>) -> Result<(), AllocError
     put_clauses(formula, out)
 }
 
-/// Appends the text of a log, which reads as that encoding and log. Where memory runs out, part of the text was appended.
+/// Appends the text of a log, which reads as that encoding and log. If memory runs out, a prefix of the text was appended.
 pub fn write_log(encoding: Encoding, log: &Log, out: &mut Vec<u8>) -> Result<(), AllocError>
     ensures text { Puts out.old.items out.new.items result (log_text encoding log.now) }
     ensures reads_back { OnOk result (log_of (log_text encoding log.now) ≡ Ok (encoding, log.now)) }
@@ -64,8 +64,16 @@ fn put_clause(literals: &[Literal], out: &mut Vec<u8>) -> Result<(), AllocError>
 fn put_header(encoding: Encoding, out: &mut Vec<u8>) -> Result<(), AllocError>
     ensures { Puts out.old.items out.new.items result (line_of (header_words encoding)) }
 {
+    put_text(header_of(encoding), out)
+}
+
+/// The line that names an encoding.
+fn header_of(encoding: Encoding) -> &'static [u8]
+    ensures { result.now ≡ line_of (header_words encoding) }
+{
     match encoding {
-        Encoding::Separation => put_text(b"lincs-refutation 1 separation\n", out),
+        Encoding::Coalitions => b"lincs-refutation 1 coalitions\n",
+        Encoding::Separation => b"lincs-refutation 1 separation\n",
     }
 }
 
@@ -152,7 +160,7 @@ fn put_number(number: u32, out: &mut Vec<u8>) -> Result<(), AllocError>
     put_text(buffer.format(number).as_bytes(), out)
 }
 
-/// Appends bytes.
+/// Appends a text.
 fn put_text(text: &[u8], out: &mut Vec<u8>) -> Result<(), AllocError>
     ensures { Puts out.old.items out.new.items result text.now }
 {

@@ -2,7 +2,7 @@ use Rattle.std.proofs.Common.{◌≡◌, ℕ, ◌<◌, ◌∷◌, sym, ◌∙◌
 use Rattle.std.proofs.lemmas.List.Elements.{All-contains, All-set}
 use Rattle.literals_core.specs.Literal.{negation}
 use Rattle.chain_core.specs.Log.{known_before}
-use Rattle.chain_core.proofs.FollowFacts.{chain_turn, marked_at, clause_range}
+use Rattle.chain_core.proofs.FollowLemmas.{chain_turn, marked_at, clause_range}
 use Rattle.chain_core.proofs.chain.follow.Goals as goal
 
 pub returns-in-AllFalse-clause-answer : goal.returns-in-AllFalse-clause-answer
@@ -45,8 +45,8 @@ loop-hint-preserved c =
       bound = All-set (λ s. s ≤ c.args.stamp) c.loop-hint.stamps c.place.result c.args.stamp (omega arith) c.loop-hint.invariant.bound;
     }
 
-pub standing_of-requires : goal.standing_of-requires
-standing_of-requires c =
+pub open_literals_of-requires : goal.open_literals_of-requires
+open_literals_of-requires c =
     let near = c.requires.hints c.loop-hint.hint-index 0 c.loop-hint-test.true in
     let is = c.known_clause-clause.ensures c.args.k c.requires.earlier near.1 in
     let range = clause_range (known_before c.args.formula.now c.args.log.now c.args.k) _ _ _ c.known_clause-clause.result.now c.requires.range is (sym c.loop-hint.auto.stamps) in

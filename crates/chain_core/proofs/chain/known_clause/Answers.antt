@@ -1,5 +1,5 @@
 use Rattle.std.proofs.Common.{refl}
-use Rattle.chain_core.proofs.KnownFacts.{known_lemma}
+use Rattle.chain_core.proofs.KnownLemmas.{known_lemma}
 use Rattle.chain_core.proofs.chain.known_clause.Goals as goal
 
 pub returns-else-id-count : goal.returns-else-id-count

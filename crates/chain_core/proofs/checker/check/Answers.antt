@@ -1,7 +1,7 @@
 use Rattle.std.proofs.Common.{sym, refl}
-use Rattle.chain_core.proofs.GoodFacts.{refutes}
-use Rattle.chain_core.proofs.RefusalFacts.{refusal_law}
-use Rattle.chain_core.proofs.TruthFacts.{refutation_sound}
+use Rattle.chain_core.proofs.GoodLemmas.{refutes}
+use Rattle.chain_core.proofs.RefusalLemmas.{refusal_law}
+use Rattle.chain_core.proofs.TruthLemmas.{refutation_sound}
 use Rattle.chain_core.proofs.checker.check.Goals as goal
 
 pub returns-then-has_empty_end-clause-answer : goal.returns-then-has_empty_end-clause-answer

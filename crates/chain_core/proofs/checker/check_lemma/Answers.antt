@@ -1,6 +1,6 @@
 use Rattle.std.proofs.Common.{map, arith}
 use Rattle.literals_core.specs.Literal.{negation}
-use Rattle.chain_core.proofs.FaultFacts.{fault_passed}
+use Rattle.chain_core.proofs.FaultLemmas.{fault_passed}
 use Rattle.chain_core.proofs.checker.check_lemma.Goals as goal
 
 pub returns-then-follow-clause-answer : goal.returns-then-follow-clause-answer

@@ -1,6 +1,6 @@
 use Rattle.std.proofs.Common.{refl}
 use Rattle.std.proofs.lemmas.Result.{err_from_is_err_and}
-use Rattle.chain_core.proofs.FaultFacts.{turn_line, stop_line, range_more}
+use Rattle.chain_core.proofs.FaultLemmas.{turn_line, stop_line, range_more}
 use Rattle.chain_core.proofs.checker.check_lines.Goals as goal
 
 pub loop-k-preserved : goal.loop-k-preserved

@@ -1,5 +1,5 @@
 use Rattle.std.proofs.Common.{◌∙◌, sym, arith}
-use Rattle.chain_core.proofs.GoodFacts.{ends_empty_is, empty_tested}
+use Rattle.chain_core.proofs.GoodLemmas.{ends_empty_is, empty_tested}
 use Rattle.chain_core.proofs.checker.has_empty_end.Goals as goal
 
 pub returns-then-count-ne0 : goal.returns-then-count-ne0

@@ -1,4 +1,4 @@
-use Rattle.chain_core.proofs.ChainFacts.{chains_computed, chains_succeed}
+use Rattle.chain_core.proofs.ChainLemmas.{chains_computed, chains_succeed}
 use Rattle.chain_core.proofs.laws.computed_chain_is_a_chain.Goals as goal
 
 pub returns : goal.returns

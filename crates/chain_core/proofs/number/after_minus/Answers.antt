@@ -1,4 +1,4 @@
-use Rattle.chain_core.proofs.NumberFacts.{no_minus}
+use Rattle.chain_core.proofs.NumberLemmas.{no_minus}
 use Rattle.chain_core.proofs.number.after_minus.Goals as goal
 
 pub returns-then-is_empty : goal.returns-then-is_empty

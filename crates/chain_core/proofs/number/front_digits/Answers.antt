@@ -1,5 +1,5 @@
 use Rattle.std.proofs.Common.{arith, sym, ap, ◌∙◌, ◌+◌, ◌*◌, min}
-use Rattle.chain_core.proofs.NumberFacts.{digit_more}
+use Rattle.chain_core.proofs.NumberLemmas.{digit_more}
 use Rattle.chain_core.proofs.number.front_digits.Goals as goal
 
 pub loop-len-preserved : goal.loop-len-preserved

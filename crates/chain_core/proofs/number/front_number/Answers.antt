@@ -1,5 +1,5 @@
 use Rattle.std.proofs.Common.{refl}
-use Rattle.chain_core.proofs.NumberFacts.{front_broken, front_other, front_is}
+use Rattle.chain_core.proofs.NumberLemmas.{front_broken, front_other, front_is}
 use Rattle.chain_core.proofs.number.front_number.Goals as goal
 
 pub returns-then-not-ends_word-clause-word : goal.returns-then-not-ends_word-clause-word

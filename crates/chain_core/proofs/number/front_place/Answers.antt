@@ -1,4 +1,4 @@
-use Rattle.chain_core.proofs.NumberFacts.{minus_is, minus_other, plain_is, plain_other}
+use Rattle.chain_core.proofs.NumberLemmas.{minus_is, minus_other, plain_is, plain_other}
 use Rattle.chain_core.proofs.number.front_place.Goals as goal
 
 pub returns-in_err-number-in-Some : goal.returns-in_err-number-in-Some

@@ -1,4 +1,4 @@
-use Rattle.chain_core.proofs.NumberFacts.{number_is}
+use Rattle.chain_core.proofs.NumberLemmas.{number_is}
 use Rattle.chain_core.proofs.number.number_of.Goals as goal
 
 pub returns-clause-number : goal.returns-clause-number

@@ -2,7 +2,7 @@ use Rattle.std.proofs.Common.{◌≡◌, ℕ, ◌++◌, ◌∷◌, [], List, rul
 use Rattle.std.proofs.lemmas.List.{take_rest}
 use Rattle.chain_core.specs.Reading.{number_in}
 use Rattle.chain_core.specs.Front.{StartsWith}
-use Rattle.chain_core.proofs.HintFacts.{hints_go_on, hints_more}
+use Rattle.chain_core.proofs.HintLemmas.{hints_go_on, hints_more}
 use Rattle.chain_core.proofs.read.read_hints.Goals as goal
 
 pub returns-then-word-eq0-clause-answer : goal.returns-then-word-eq0-clause-answer

@@ -1,6 +1,6 @@
 use Rattle.std.proofs.Common.{◌++◌, ◌∙◌, ap, arith, drop}
 use Rattle.chain_core.specs.Reading.{words_of}
-use Rattle.chain_core.proofs.HintFacts.{list_positive}
+use Rattle.chain_core.proofs.HintLemmas.{list_positive}
 use Rattle.chain_core.proofs.read.read_lemma.Goals as goal
 
 pub returns-clause-numbered : goal.returns-clause-numbered

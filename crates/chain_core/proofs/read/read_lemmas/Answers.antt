@@ -2,7 +2,7 @@ use Rattle.std.proofs.Common.{◌≡◌, ◌++◌, ◌∷◌, [], ◌∙◌, sym
 use Rattle.std.specs.Prelude.{Err}
 use Rattle.std.proofs.lemmas.List.{take_rest, length-drop, length_push}
 use Rattle.std.proofs.lemmas.Result.{err_from_is_err_and}
-use Rattle.chain_core.proofs.LineFacts.{line_cut, line_fails, line_passes, line_inside}
+use Rattle.chain_core.proofs.LineLemmas.{line_cut, line_fails, line_passes, line_inside}
 use Rattle.chain_core.proofs.read.read_lemmas.Goals as goal
 
 pub returns-in_default : goal.returns-in_default

@@ -1,6 +1,6 @@
 use Rattle.std.proofs.Common.{◌≡◌, ◌+◌, ◌-◌, ◌≤◌, length, drop}
 use Rattle.chain_core.specs.Reading.{lines_of, lemmas_in}
-use Rattle.chain_core.proofs.LineFacts.{after_lemmas}
+use Rattle.chain_core.proofs.LineLemmas.{after_lemmas}
 use Rattle.chain_core.proofs.read.read_lemmas.Given as goal
 
 -- the lemmas so far, and those to come, are all

@@ -1,8 +1,8 @@
 use Rattle.std.proofs.Common.{inl, inr}
 use Rattle.std.proofs.lemmas.Result.{err_from_is_err_and}
-use Rattle.chain_core.proofs.LineFacts.{no_header, header_other, header_fails, header_passes}
-use Rattle.chain_core.proofs.ReadsBack.{log_law}
-use Rattle.chain_core.proofs.UnreadFacts.{unread_law}
+use Rattle.chain_core.proofs.LineLemmas.{no_header, header_other, header_fails, header_passes}
+use Rattle.chain_core.proofs.ReadsBackLemmas.{log_law}
+use Rattle.chain_core.proofs.UnreadLemmas.{unread_law}
 use Rattle.chain_core.proofs.read.read_log.Goals as goal
 
 pub returns-in_default-clause-answer : goal.returns-in_default-clause-answer

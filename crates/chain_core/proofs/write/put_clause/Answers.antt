@@ -1,5 +1,5 @@
 use Rattle.lists_core.proofs.PutsFacts.{puts-then}
-use Rattle.chain_core.proofs.WriteFacts.{puts-as, clause_line, failed_first}
+use Rattle.chain_core.proofs.WriteLemmas.{puts-as, clause_line, failed_first}
 use Rattle.chain_core.proofs.write.put_clause.Goals as goal
 
 pub returns-in_err-put_literals : goal.returns-in_err-put_literals

@@ -1,5 +1,5 @@
 use Rattle.lists_core.proofs.PutsFacts.{puts-then}
-use Rattle.chain_core.proofs.WriteFacts.{puts-as, dimacs_by, failed_first}
+use Rattle.chain_core.proofs.WriteLemmas.{puts-as, dimacs_by, failed_first}
 use Rattle.chain_core.proofs.write.put_dimacs.Goals as goal
 
 pub returns-in_err-put_size : goal.returns-in_err-put_size

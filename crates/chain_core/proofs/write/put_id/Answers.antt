@@ -1,5 +1,5 @@
 use Rattle.lists_core.proofs.PutsFacts.{puts-then}
-use Rattle.chain_core.proofs.WriteFacts.{failed_first}
+use Rattle.chain_core.proofs.WriteLemmas.{failed_first}
 use Rattle.chain_core.proofs.write.put_id.Goals as goal
 
 pub returns-in_err-put_number-clause-text : goal.returns-in_err-put_number-clause-text

@@ -2,7 +2,7 @@ use Rattle.std.proofs.Common.{◌++◌, ◌∷◌, [], ◌≤◌}
 use Rattle.std.specs.Prelude.{decimal}
 use Rattle.std.proofs.lemmas.List.{get_or_default}
 use Rattle.std.proofs.lemmas.List.Elements.{All-more}
-use Rattle.chain_core.proofs.WriteFacts.{more_put, cut_put}
+use Rattle.chain_core.proofs.WriteLemmas.{more_put, cut_put}
 use Rattle.chain_core.specs.declared.number.TheConstants.{MOST_ID}
 use Rattle.chain_core.proofs.write.put_ids.Goals as goal
 

@@ -1,5 +1,5 @@
 use Rattle.std.proofs.Common.{refl}
-use Rattle.chain_core.proofs.WriteFacts.{OnOk-known, writable_by, puts-as, lemma_line_by, failed_first, failed_second, failed_third, failed_fourth, five_put}
+use Rattle.chain_core.proofs.WriteLemmas.{OnOk-known, writable_by, puts-as, lemma_line_by, failed_first, failed_second, failed_third, failed_fourth, five_put}
 use Rattle.chain_core.proofs.write.put_lemma.Goals as goal
 
 pub returns-in_err-put_id-clause-text : goal.returns-in_err-put_id-clause-text

@@ -1,7 +1,7 @@
 use Rattle.std.proofs.lemmas.Option.{slice_get_within, get_or_from_slice_get}
 use Rattle.chain_core.specs.Lemma.{IsNumbered}
 use Rattle.chain_core.specs.Text.{line_of, lemma_words}
-use Rattle.chain_core.proofs.WriteFacts.{more_put, cut_put, writable_more, All-slice_get}
+use Rattle.chain_core.proofs.WriteLemmas.{more_put, cut_put, writable_more, All-slice_get}
 use Rattle.chain_core.proofs.write.put_lemmas.Goals as goal
 
 pub returns-in_err-put_lemma-clause-text : goal.returns-in_err-put_lemma-clause-text

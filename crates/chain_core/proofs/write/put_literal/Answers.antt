@@ -1,6 +1,6 @@
 use Rattle.std.proofs.Common.{refl, arith}
 use Rattle.lists_core.proofs.PutsFacts.{puts-then}
-use Rattle.chain_core.proofs.WriteFacts.{puts-as, literal_by, failed_first, OnOk-known}
+use Rattle.chain_core.proofs.WriteLemmas.{puts-as, literal_by, failed_first, OnOk-known}
 use Rattle.chain_core.proofs.write.put_literal.Goals as goal
 
 pub returns-in_err-put_sign-clause-text : goal.returns-in_err-put_sign-clause-text

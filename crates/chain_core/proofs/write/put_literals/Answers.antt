@@ -2,7 +2,7 @@ use Rattle.std.proofs.Common.{sym, ◌++◌, ◌∷◌, [], subst}
 use Rattle.std.proofs.lemmas.List.Elements.{All-more}
 use Rattle.chain_core.specs.Literal.{IsPlace}
 use Rattle.chain_core.specs.Text.{literal_word}
-use Rattle.chain_core.proofs.WriteFacts.{more_put, cut_put}
+use Rattle.chain_core.proofs.WriteLemmas.{more_put, cut_put}
 use Rattle.chain_core.proofs.write.put_literals.Goals as goal
 
 pub returns-in_err-put_literal-clause-text : goal.returns-in_err-put_literal-clause-text

@@ -1,5 +1,5 @@
 use Rattle.std.specs.Prelude.{decimal}
-use Rattle.chain_core.proofs.WriteFacts.{puts-as, size_line, failed_first, failed_second, failed_third, four_put}
+use Rattle.chain_core.proofs.WriteLemmas.{puts-as, size_line, failed_first, failed_second, failed_third, four_put}
 use Rattle.chain_core.proofs.write.put_size.Goals as goal
 
 pub returns-in_err-put_text : goal.returns-in_err-put_text

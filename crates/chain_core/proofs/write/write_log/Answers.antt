@@ -1,7 +1,7 @@
 use Rattle.std.proofs.lemmas.Result.{on_ok_weaker}
 use Rattle.lists_core.proofs.PutsFacts.{puts-then}
-use Rattle.chain_core.proofs.ReadsBack.{text_reads}
-use Rattle.chain_core.proofs.WriteFacts.{failed_first}
+use Rattle.chain_core.proofs.ReadsBackLemmas.{text_reads}
+use Rattle.chain_core.proofs.WriteLemmas.{failed_first}
 use Rattle.chain_core.proofs.write.write_log.Goals as goal
 
 pub returns-in_err-put_header-clause-text : goal.returns-in_err-put_header-clause-text

@@ -8,7 +8,7 @@ use Rattle.literals_core.specs.Literal.{variable_of}
 use Rattle.literals_core.specs.Formula.{Cnf, InRange}
 use Rattle.chain_core.specs.Chain.{chain_succeeds}
 use Rattle.chain_core.specs.Log.{known_before, lemma_fault, first_fault, or_else}
-use Rattle.chain_core.proofs.KnownFacts.{length-known, known_more}
+use Rattle.chain_core.proofs.KnownLemmas.{length-known, known_more}
 use Rattle.chain_core.specs.declared.log.Lemma.{Lemma}
 use Rattle.chain_core.specs.declared.fault.CheckFault.{CheckFault}
 use Rattle.chain_core.specs.declared.fault.CheckFault.TheVariants.{Id, Literal, Hint, Chain}

@@ -1,46 +1,18 @@
 -- What a chain says of truth values.
-use Rattle.std.proofs.Common.{◌≡◌, ◌≢◌, ℕ, ◌+◌, ◌-◌, ◌/◌, ◌%◌, ◌==◌, ◌||◌, not, Bool, true, false, cond, List, [], ◌∷◌, ◌++◌, map, refl, sym, ◌∙◌, ap, arith, eq-eqb, subst, ◌⊎◌, inl, inr}
-use Rattle.std.specs.List.{All, Contains}
-use Rattle.std.proofs.lemmas.Bool.{false≢true, cases_Bool, ne_eqb}
-use Rattle.std.proofs.lemmas.Bool.Decides.{eqb_tells}
+use Rattle.std.proofs.Common.{◌≡◌, ℕ, ◌||◌, not, Bool, true, false, List, [], ◌∷◌, ◌++◌, map, sym, ◌∙◌, ap, subst, ◌⊎◌, inl, inr}
+use Rattle.std.specs.List.{All}
+use Rattle.std.proofs.lemmas.Bool.{false≢true, cases_Bool}
 use Rattle.std.proofs.lemmas.List.Elements.{All-push, All-cons, All-nil, All-contains, Contains-push}
 use Rattle.literals_core.specs.Literal.{negation}
 use Rattle.literals_core.specs.Truth.{IsFalseUnder}
-use Rattle.literals_core.proofs.Members.{Contains-first, Contains-later}
+use Rattle.literals_core.proofs.Values.{negation_flips, not_both_true, some_true}
 use Rattle.literals_core.specs.Formula.{Cnf}
 use Rattle.chain_core.specs.Chain.{Chains, ends, adds}
 use Rattle.chain_core.specs.Log.{IsGoodLemma, IsRefutation}
 use Rattle.literals_core.specs.Values.{literal_true, clause_true, Satisfies, IsUnsatisfiable}
 use Rattle.chain_core.specs.declared.log.Lemma.{Lemma}
-use Rattle.chain_core.proofs.KnownFacts.{All-clause_at}
-use Rattle.chain_core.proofs.GoodFacts.{GoodAfter, first_good, rest_good}
-
-truth : (v : ℕ → Bool) (m h : ℕ) (b : Bool) → m / 2 ≡ h → (m % 2 == 0) ≡ b → literal_true v m ≡ cond b (v h) (not (v h))
-truth v m h b half parity = ap (λ n. cond (m % 2 == 0) (v n) (not (v n))) half ∙ ap (λ p. cond p (v h) (not (v h))) parity
-
-mod_two : (l : ℕ) → l % 2 ≢ 0 → l % 2 ≡ 1
-mod_two l h = omega (arith, h)
-
-not_not : (b : Bool) → not (not b) ≡ b
-not_not true = refl
-not_not false = refl
-
--- the negation of a literal has the other value
-flips : (v : ℕ → Bool) (l : ℕ) → literal_true v (negation l) ≡ not (literal_true v l)
-flips v l =
-    elim (eqb_tells (l % 2) 0) [
-      | inl even ↦ (let up : negation l ≡ l + 1 = ap (λ t. cond t (l + 1) (l - 1)) even.0 in
-          let here : literal_true v l ≡ v (l / 2) = truth v l (l / 2) true refl even.0 in
-          let odd : ((l + 1) % 2 == 0) ≡ false = ne_eqb ((l + 1) % 2) 0 (omega arith) in
-          let there : literal_true v (l + 1) ≡ not (v (l / 2)) = truth v (l + 1) (l / 2) false (omega arith) odd in
-          ap (literal_true v) up ∙ there ∙ ap not (sym here))
-      | inr odd ↦ (let down : negation l ≡ l - 1 = ap (λ t. cond t (l + 1) (l - 1)) odd.0 in
-          let parity : l % 2 ≡ 1 = mod_two l odd.1 in
-          let here : literal_true v l ≡ not (v (l / 2)) = truth v l (l / 2) false refl odd.0 in
-          let even : ((l - 1) % 2 == 0) ≡ true = eq-eqb ((l - 1) % 2) 0 (omega arith) in
-          let there : literal_true v (l - 1) ≡ v (l / 2) = truth v (l - 1) (l / 2) true (omega arith) even in
-          ap (literal_true v) down ∙ there ∙ sym (not_not (v (l / 2))) ∙ ap not (sym here))
-    ]
+use Rattle.chain_core.proofs.KnownLemmas.{All-clause_at}
+use Rattle.chain_core.proofs.GoodLemmas.{GoodAfter, first_good, rest_good}
 
 abbrev IsTrueAt : (ℕ → Bool) → ℕ → Type 0
 IsTrueAt v l = literal_true v l ≡ true
@@ -48,16 +20,7 @@ IsTrueAt v l = literal_true v l ≡ true
 -- a literal that is false under a set of true ones is false
 false_under : (v : ℕ → Bool) (set : List ℕ) (l : ℕ) → All (IsTrueAt v) set → IsFalseUnder set l → IsTrueAt v l → ⊥
 false_under v set l all out holds =
-    false≢true (sym (ap not holds) ∙ sym (flips v l) ∙ All-contains (IsTrueAt v) set (negation l) all out)
-
--- a true clause has a true literal
-some_true : (v : ℕ → Bool) (clause : List ℕ) → clause_true v clause ≡ true → (x : ℕ) × Contains clause x × IsTrueAt v x
-some_true v [] holds = absurd (false≢true holds)
-some_true v (x ∷ clause) holds =
-    elim (cases_Bool (literal_true v x)) [
-      | inl good ↦ (x, Contains-first x clause, good)
-      | inr bad ↦ (let later = some_true v clause (sym (ap (λ b. b || clause_true v clause) bad) ∙ holds) in (later.0, Contains-later x later.0 clause later.1, later.2))
-    ]
+    not_both_true v l holds (All-contains (IsTrueAt v) set (negation l) all out)
 
 -- a chain contradicts truth values of all clauses and of its set
 chain_sound : (v : ℕ → Bool) {known : List (List ℕ)} {set hints : List ℕ} → Satisfies v known → All (IsTrueAt v) set → Chains known set hints → ⊥
@@ -77,7 +40,7 @@ negations_true v [] none = All-nil (IsTrueAt v)
 negations_true v (l ∷ clause) none =
     elim (cases_Bool (literal_true v l)) [
       | inl good ↦ absurd (false≢true (sym none ∙ ap (λ b. b || clause_true v clause) good))
-      | inr bad ↦ All-cons (IsTrueAt v) (negation l) (map negation clause) (flips v l ∙ ap not bad) (negations_true v clause (sym (ap (λ b. b || clause_true v clause) bad) ∙ none))
+      | inr bad ↦ All-cons (IsTrueAt v) (negation l) (map negation clause) (negation_flips v l ∙ ap not bad) (negations_true v clause (sym (ap (λ b. b || clause_true v clause) bad) ∙ none))
     ]
 
 -- a good lemma is true where the clauses before it are

@@ -8,7 +8,7 @@ use Rattle.std.proofs.lemmas.List.{append_assoc, drop-drop, length-drop}
 use Rattle.std.proofs.lemmas.List.Elements.{All-cons, All-nil}
 use Rattle.chain_core.specs.Reading.{words_of, number_in, hints_in, hints_then}
 use Rattle.chain_core.specs.Front.{words_after, StartsWith}
-use Rattle.chain_core.proofs.NumberFacts.{split_some, after_space}
+use Rattle.chain_core.proofs.NumberLemmas.{split_some, after_space}
 
 -- how the words of hints begin
 hints_at : (text : List ℕ) (v n : ℕ) → StartsWith number_in text v n → hints_in (words_of text) ≡ hints_then (Some v) (words_after n text) (hints_in (words_after n text))

@@ -13,8 +13,8 @@ use Rattle.chain_core.specs.Log.{IsGoodLemma, EndsEmpty, IsRefutation, lemma_fau
 use Rattle.chain_core.specs.declared.log.Lemma.{Lemma}
 use Rattle.chain_core.specs.declared.fault.CheckFault.{CheckFault}
 use Rattle.chain_core.specs.declared.fault.CheckFault.TheVariants.{Id, Literal, Hint, Chain, NotEmpty}
-use Rattle.chain_core.proofs.ChainFacts.{chains_computed, chains_succeed}
-use Rattle.chain_core.proofs.FaultFacts.{fault_staged}
+use Rattle.chain_core.proofs.ChainLemmas.{chains_computed, chains_succeed}
+use Rattle.chain_core.proofs.FaultLemmas.{fault_staged}
 
 cond_none : (b : Bool) (fault : CheckFault) (rest : Option CheckFault) → cond b (Some fault) rest ≡ None → (b ≡ false) × (rest ≡ None)
 cond_none true fault rest h = cc

@@ -9,13 +9,11 @@ use Rattle.std.proofs.lemmas.Option.{slice_get_within, get_or_from_slice_get}
 use Rattle.lists_core.specs.Puts.{Puts}
 use Rattle.lists_core.proofs.PutsFacts.{puts-then, puts-cut, puts-failed}
 use Rattle.literals_core.specs.Literal.{variable_of}
-use Rattle.chain_core.specs.Text.{line_of, sign_text, literal_word, size_words, clause_words, lemma_words, header_words, dimacs_text}
+use Rattle.chain_core.specs.Text.{line_of, sign_text, literal_word, size_words, clause_words, lemma_words, dimacs_text}
 use Rattle.literals_core.specs.Formula.{Cnf}
 use Rattle.chain_core.specs.Lemma.{IsNumbered, IsWritable}
 use Rattle.chain_core.specs.Literal.{IsPlace}
 use Rattle.chain_core.specs.declared.number.TheConstants.{MOST_ID}
-use Rattle.chain_core.specs.declared.encoding.Encoding.{Encoding}
-use Rattle.chain_core.specs.declared.encoding.Encoding.TheVariants.{Separation}
 use Rattle.chain_core.specs.declared.log.Lemma.{Lemma}
 
 -- a literal and a space, by its variable
@@ -74,9 +72,6 @@ dimacs_by formula variables clauses a b =
 -- the line of a formula's size
 pub size_line : (a b : List ℕ) → line_of (codes "p" ∷ codes "cnf" ∷ a ∷ b ∷ []) ≡ codes "p cnf " ++ ((a ++ 32 ∷ []) ++ (b ++ codes "\n"))
 size_line a b = simp append_assoc
-
-pub header_line : (encoding : Encoding) → line_of (header_words encoding) ≡ codes "lincs-refutation 1 separation\n"
-header_line Separation = refl
 
 -- the same text by another term
 pub puts-as : (old new a b : List ℕ) {T E : Type 0} (r : Result T E) → a ≡ b → Puts old new r b → Puts old new r a

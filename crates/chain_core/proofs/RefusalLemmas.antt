@@ -14,9 +14,9 @@ use Rattle.chain_core.specs.Refusal.{LemmaFails, other_id, high_literal, other_h
 use Rattle.chain_core.specs.declared.log.Lemma.{Lemma}
 use Rattle.chain_core.specs.declared.fault.CheckFault.{CheckFault}
 use Rattle.chain_core.specs.declared.fault.CheckFault.TheVariants.{Id, Literal, Hint, Chain, NotEmpty}
-use Rattle.chain_core.proofs.ChainFacts.{chains_computed, chains_succeed}
-use Rattle.chain_core.proofs.FaultFacts.{fault_staged}
-use Rattle.chain_core.proofs.GoodFacts.{GoodAfter, good_lemma, lemma_passes, lemmas_good, good_passes, good_first, first_good, rest_good, all_fail, none_passes, hint_near, near_hint, end_tested, tested_end}
+use Rattle.chain_core.proofs.ChainLemmas.{chains_computed, chains_succeed}
+use Rattle.chain_core.proofs.FaultLemmas.{fault_staged}
+use Rattle.chain_core.proofs.GoodLemmas.{GoodAfter, good_lemma, lemma_passes, lemmas_good, good_passes, good_first, first_good, rest_good, all_fail, none_passes, hint_near, near_hint, end_tested, tested_end}
 
 -- a test that some element passes, and the fact that it stands for
 some_told : (test : ℕ → Bool) (P : ℕ → Type 0) → ((x : ℕ) → test x ≡ true → P x) → (xs : List ℕ) → list_any test xs ≡ true → Any P xs

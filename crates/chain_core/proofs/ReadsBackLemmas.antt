@@ -10,20 +10,20 @@ use Rattle.std.proofs.lemmas.List.Elements.{All-cons, All-nil, All-head, All-tai
 use Rattle.std.proofs.lemmas.List.Splits.{slice_split_at, join_with_byte-slice_split}
 use Rattle.std.proofs.lemmas.Fmt.{decimal_digit}
 use Rattle.std.proofs.lemmas.Slice.Eq.{bytes_eq-Decides}
-use Rattle.std.proofs.lemmas.Option.{none-some, same_Some, cond_some, some_pair_parts}
+use Rattle.std.proofs.lemmas.Option.{none-some, same_Some, some_pair_parts}
 use Rattle.chain_core.specs.Literal.{IsPlace}
 use Rattle.chain_core.specs.Lemma.{IsId, IsWritable}
 use Rattle.chain_core.specs.declared.literal.TheConstants.{MOST_PLACE}
 use Rattle.chain_core.specs.Text.{line_of, literal_word, clause_words, lemma_words, header_words, log_text}
 use Rattle.chain_core.specs.Reading.{words_of, lines_of, number_in, place_in, hints_in, hints_then, literals_in, literals_then, lemma_in, lemma_from, lemma_of_words, lemmas_in, lemmas_then, encoding_in, log_then, log_of_lines, log_of}
-use Rattle.chain_core.specs.declared.encoding.Encoding.{Encoding}
-use Rattle.chain_core.specs.declared.encoding.Encoding.TheVariants.{Separation}
+use Rattle.literals_core.specs.declared.encoding.Encoding.{Encoding}
+use Rattle.literals_core.specs.declared.encoding.Encoding.TheVariants.{Coalitions, Separation}
 use Rattle.chain_core.specs.declared.fault.LogFault.{LogFault}
 use Rattle.chain_core.specs.declared.fault.LogFault.TheVariants.{Shape}
 use Rattle.chain_core.specs.declared.log.Lemma.{Lemma}
-use Rattle.chain_core.proofs.NumberFacts.{split_some, plain_place}
-use Rattle.chain_core.proofs.HintFacts.{zero_then, one_then}
-use Rattle.chain_core.proofs.WordFacts.{word_of_number, number_small, decimal_number, zero_number, word_of_place, literal_place, split_join, free_joined, decimal_free, literal_free, some_of}
+use Rattle.chain_core.proofs.NumberLemmas.{split_some, plain_place}
+use Rattle.chain_core.proofs.HintLemmas.{zero_then, one_then}
+use Rattle.chain_core.proofs.WordLemmas.{word_of_number, number_small, decimal_number, zero_number, word_of_place, literal_place, split_join, free_joined, decimal_free, literal_free, some_of}
 
 zero_word : (word : List ℕ) (v : ℕ) → number_in word ≡ Some v → v ≡ 0 → word ≡ codes "0"
 zero_word word v is none = word_of_number word v is ∙ ap decimal none ∙ decimal_digit 0 (omega arith)
@@ -267,15 +267,24 @@ lines_read line (lemma ∷ log) writable =
     ∙ ap (λ ls. lemmas_then line (Some lemma) (lemmas_in (line + 1) ls)) (sym rest.1.1) ∙ ap (lemmas_then line (Some lemma)) more
 
 -- the header
+told_by : (a b : Bool) (line : List ℕ) (encoding : Encoding) → (a ≡ true → line ≡ codes "lincs-refutation 1 coalitions") → (b ≡ true → line ≡ codes "lincs-refutation 1 separation")
+    → cond a (Some Coalitions) (cond b (Some Separation) None) ≡ Some encoding → line ≡ join_with_byte 32 (header_words encoding)
+told_by true b line encoding first second is = subst (λ e. line ≡ join_with_byte 32 (header_words e)) (same_Some Coalitions encoding is) (first refl)
+told_by false true line encoding first second is = subst (λ e. line ≡ join_with_byte 32 (header_words e)) (same_Some Separation encoding is) (second refl)
+told_by false false line encoding first second is = absurd cc
+
 pub encoding_told : (line : List ℕ) (encoding : Encoding) → encoding_in line ≡ Some encoding → line ≡ join_with_byte 32 (header_words encoding)
-encoding_told line Separation is =
-    let same = cond_some (bytes_eq line (codes "lincs-refutation 1 separation")) Separation Separation is in
-    (bytes_eq-Decides line (codes "lincs-refutation 1 separation")).0 same.0
+encoding_told line encoding is =
+    let coalitions : List ℕ = codes "lincs-refutation 1 coalitions" in
+    let separation : List ℕ = codes "lincs-refutation 1 separation" in
+    told_by (bytes_eq line coalitions) (bytes_eq line separation) line encoding (bytes_eq-Decides line coalitions).0 (bytes_eq-Decides line separation).0 is
 
 pub encoding_read : (encoding : Encoding) → encoding_in (join_with_byte 32 (header_words encoding)) ≡ Some encoding
+encoding_read Coalitions = refl
 encoding_read Separation = refl
 
 pub header_free : (encoding : Encoding) → IsFree 10 (join_with_byte 32 (header_words encoding))
+header_free Coalitions = All-from_recursion (λ b. (b == 10) ≡ false) (codes "lincs-refutation 1 coalitions") (search rules)
 header_free Separation = All-from_recursion (λ b. (b == 10) ≡ false) (codes "lincs-refutation 1 separation") (search rules)
 
 abbrev value_or : Encoding × List Lemma → Result (Encoding × List Lemma) LogFault → Encoding × List Lemma

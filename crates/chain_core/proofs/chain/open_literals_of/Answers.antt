@@ -1,9 +1,9 @@
 use Rattle.std.proofs.Common.{sym, subst, ◌∙◌, ℕ, Option}
 use Rattle.std.specs.List.{Contains}
 use Rattle.std.specs.Option.{IfSome}
-use Rattle.chain_core.proofs.StandingFacts.{turn_skip, turn_first, turn_same, turn_other, rest_end}
-use Rattle.chain_core.proofs.chain.standing_of.Goals as goal
-use Rattle.chain_core.proofs.chain.standing_of.Goals.{then-stamps-place+in-None, then-stamps-place+in-Some+else-ne, else-stamps-place}
+use Rattle.chain_core.proofs.OpenLiteralsLemmas.{turn_skip, turn_first, turn_same, turn_other, rest_end}
+use Rattle.chain_core.proofs.chain.open_literals_of.Goals as goal
+use Rattle.chain_core.proofs.chain.open_literals_of.Goals.{then-stamps-place+in-None, then-stamps-place+in-Some+else-ne, else-stamps-place}
 
 pub returns-then-ne-clause-answer : goal.returns-then-ne-clause-answer
 returns-then-ne-clause-answer c = λ next.

@@ -11,13 +11,13 @@ use Rattle.chain_core.specs.Lemma.{IsWritable}
 use Rattle.chain_core.specs.Text.{line_of, header_words, lemma_words}
 use Rattle.chain_core.specs.Reading.{lines_of, lemma_in, lemmas_in, lemmas_then, encoding_in, log_then, log_of_lines, log_of}
 use Rattle.chain_core.specs.Unread.{BeginsWith, FailsAtLine, IsUnread}
-use Rattle.chain_core.specs.declared.encoding.Encoding.{Encoding}
+use Rattle.literals_core.specs.declared.encoding.Encoding.{Encoding}
 use Rattle.chain_core.specs.declared.log.Lemma.{Lemma}
 use Rattle.chain_core.specs.declared.fault.LogFault.{LogFault}
 use Rattle.chain_core.specs.declared.fault.LogFault.TheVariants.{Header, Shape, NoMemory}
-use Rattle.chain_core.proofs.NumberFacts.{split_some}
-use Rattle.chain_core.proofs.WordFacts.{split_join}
-use Rattle.chain_core.proofs.ReadsBack.{IsFree, text_of, lines_text, line_reads, line_told, one_line, text_free, header_free, encoding_read, encoding_told}
+use Rattle.chain_core.proofs.NumberLemmas.{split_some}
+use Rattle.chain_core.proofs.WordLemmas.{split_join}
+use Rattle.chain_core.proofs.ReadsBackLemmas.{IsFree, text_of, lines_text, line_reads, line_told, one_line, text_free, header_free, encoding_read, encoding_told}
 
 -- no part has the byte at which a text was parted
 parts_free : (c : ℕ) (xs : List ℕ) → All (IsFree c) (slice_split (λ b. b == c) xs)

@@ -15,7 +15,7 @@ use Rattle.literals_core.specs.Literal.{variable_of}
 use Rattle.chain_core.specs.Literal.{has_minus}
 use Rattle.chain_core.specs.Text.{literal_word}
 use Rattle.chain_core.specs.Reading.{number_in, place_in}
-use Rattle.chain_core.proofs.NumberFacts.{number_by, plain_place}
+use Rattle.chain_core.proofs.NumberLemmas.{number_by, plain_place}
 
 own : IsNumeralModel (λ ds. all_ascii_digits ds ≡ true) (digits_value 10)
 own = numerals_by_value (λ ds. all_ascii_digits ds ≡ true) tells_all_ascii_digits

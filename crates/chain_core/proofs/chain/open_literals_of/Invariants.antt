@@ -2,8 +2,8 @@ use Rattle.std.proofs.Common.{◌≡◌, ℕ, Bool, drop, get_or, not, ◌==◌}
 use Rattle.std.specs.List.{filter, Contains}
 use Rattle.std.specs.Option.{IfSome}
 use Rattle.chain_core.specs.Chain.{after_open}
-use Rattle.chain_core.proofs.StandingFacts.{rest_answer}
-use Rattle.chain_core.proofs.chain.standing_of.Given as goal
+use Rattle.chain_core.proofs.OpenLiteralsLemmas.{rest_answer}
+use Rattle.chain_core.proofs.chain.open_literals_of.Given as goal
 
 abbrev pub invariant-loop-literal : goal.invariant-loop-literal
 invariant-loop-literal l = record {

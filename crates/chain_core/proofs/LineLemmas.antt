@@ -8,11 +8,11 @@ use Rattle.std.proofs.lemmas.List.Sums.{fails_before_first}
 use Rattle.std.proofs.lemmas.List.Splits.{slice_split_none, slice_split_first}
 use Rattle.std.proofs.lemmas.Option.{cond_some}
 use Rattle.chain_core.specs.Reading.{lines_of, lemma_in, lemmas_in, lemmas_then, encoding_in, log_then, log_of, log_of_lines}
-use Rattle.chain_core.specs.declared.encoding.Encoding.{Encoding}
+use Rattle.literals_core.specs.declared.encoding.Encoding.{Encoding}
 use Rattle.chain_core.specs.declared.fault.LogFault.{LogFault}
 use Rattle.chain_core.specs.declared.fault.LogFault.TheVariants.{Header, Shape}
 use Rattle.chain_core.specs.declared.log.Lemma.{Lemma}
-use Rattle.chain_core.proofs.NumberFacts.{split_some}
+use Rattle.chain_core.proofs.NumberLemmas.{split_some}
 
 -- lemmas before the others
 abbrev pub after_lemmas : List Lemma → Result (List Lemma) LogFault → Result (List Lemma) LogFault

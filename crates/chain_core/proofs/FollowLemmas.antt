@@ -10,7 +10,7 @@ use Rattle.literals_core.specs.Truth.{is_false, open_literals}
 use Rattle.literals_core.proofs.Negation.{negation_twice}
 use Rattle.chain_core.specs.Chain.{clause_at, after_open, after_clause, chain_from}
 use Rattle.chain_core.specs.Stamps.{IsMarked}
-use Rattle.chain_core.proofs.KnownFacts.{All-clause_at}
+use Rattle.chain_core.proofs.KnownLemmas.{All-clause_at}
 
 open_same : (stamps : List ℕ) (stamp : ℕ) (now clause : List ℕ) → All (λ l. l < length stamps) clause → IsMarked stamps stamp now → filter (λ l. not (get_or stamps l 0 == stamp)) clause ≡ open_literals now clause
 open_same stamps stamp now [] within marked = refl
