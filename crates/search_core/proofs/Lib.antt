@@ -1,0 +1,16 @@
+pub mod ListLemmas
+pub mod InnerLemmas
+pub mod EntryLemmas
+pub mod HintLemmas
+pub mod FreshLemmas
+pub mod MarkLemmas
+pub mod AnalyzeLemmas
+pub mod StateLemmas
+pub mod LearnLemmas
+pub mod MinimizeLemmas
+pub mod PowerLemmas
+pub mod LogLemmas
+pub mod DecideLemmas
+pub mod RestartLemmas
+pub mod OutcomeLemmas
+pub mod UnitLemmas

@@ -1,0 +1,6 @@
+use Rattle.std.specs.List.{All}
+use Rattle.watch_core.specs.Places.{HasDistinctVariables}
+use Rattle.worked_search.proofs.implications.chain.Given as goal
+
+abbrev pub invariant-loop-place : goal.invariant-loop-place
+invariant-loop-place l = All HasDistinctVariables l.formula.clauses
