@@ -1,0 +1,20 @@
+mod Worked
+pub mod EachFacts
+pub mod TruthFacts
+pub mod Clauses
+pub mod Values
+pub mod RankFacts
+pub mod FlagFacts
+pub mod TaskFacts
+pub mod Complete
+pub mod Restore
+pub mod SizeFacts
+pub mod RangeFacts
+pub mod SetFacts
+pub mod CoalitionClauses
+pub mod CoalitionComplete
+pub mod CoalitionSizes
+pub mod CoalitionRange
+pub mod Laws
+pub mod EncodingFacts
+pub mod ApartFacts

@@ -1,0 +1,10 @@
+pub mod Each
+pub mod Task
+pub mod Ranks
+pub mod Unknowns
+pub mod Shared
+pub mod Separation
+pub mod Meaning
+pub mod Rebuilt
+pub mod Coalitions
+pub mod Encodings
