@@ -1,8 +1,10 @@
 pub mod Indices
-pub mod AcceptedLemmas
-pub mod CategoryLemmas
 pub mod OrderLemmas
 pub mod ThresholdLemmas
 pub mod RootLemmas
 pub mod SetLemmas
 pub mod BelongsLemmas
+pub mod AcceptedLemmas
+pub mod WeightLemmas
+pub mod CategoryLemmas
+pub mod MinimalLemmas

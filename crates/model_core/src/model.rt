@@ -1,59 +1,117 @@
-//! Models with roots, and the category that they give.
-ghost use Rattle.std.specs.Prelude.{◌≡◌, ◌<◌, length};
-ghost use Rattle.std.specs.List.{list_any};
-ghost use Rattle.sorting_rule.specs.Model.{accepted_set, category};
-ghost use Rattle.sorting_rule.specs.Coalition.{is_inside};
-ghost use Rattle.model_core.specs.Model.{boundaries_of, profiles_of, rule_of, Belongs};
+//! Models: thresholds for each criterion, and coalitions for each boundary.
+ghost use Rattle.std.specs.Prelude.{◌≡◌, ◌-◌, ◌<◌, ◌≤◌, Some, length, slice_get};
 
-use problem_core::{Grade, Problem, as_good};
-use rows_core::Rows;
+use fixed_core::Fixed;
+use lists_core::ListOf;
+use problem_core::{Grade, Problem};
+use std::marker;
 
-/// A model in which a set of criteria is sufficient where it contains a root.
+/// The thresholds of a criterion from boundary 1 on: a grade, or `None` (null), which accepts nothing.
+pub type Grades = ListOf<Option<Grade>>;
+
+/// Weights in the order of the criteria, in units of 10^-18.
+pub type Fixeds = ListOf<Fixed>;
+
+/// Sets of criteria. A set is a mask: its bit i stands for criterion i.
+pub type Masks = ListOf<u32>;
+
+/// What a criterion accepts at each boundary.
 #[derive(Drop)]
-pub struct RootsModel {
-    /// A row a criterion: its threshold at each boundary.
-    pub thresholds: Rows<Grade>,
-    /// A row a boundary: its roots. A root is a set of criteria, a mask with bit i for criterion i.
-    pub roots: Rows<u32>,
+pub struct Profile {
+    /// The threshold at each boundary, boundary 1 first.
+    pub thresholds: Grades,
 }
 
-/// The set of the criteria that accept their grade at the boundary at a place, as a mask.
-fn accepted_set(problem: &Problem, model: &RootsModel, place: u32, grades: &[Grade]) -> u32
-    requires belongs { Belongs problem.now model.now }
-    requires place { place < boundaries_of problem.now }
-    requires grades { length grades.now ≡ length problem.now.criteria }
-    ensures { result ≡ accepted_set (profiles_of problem.now.criteria model.now.thresholds) place grades.now }
-{
-    let mut set = 0;
-    for i in (0..problem.criteria_count()).rev() {
-        let threshold = model.thresholds.row(i as usize)[place as usize];
-        let accepts = as_good(&problem.criterion(i).scale, grades[i as usize], threshold);
-        set = 2 * set + u32::from(accepts);
-    }
-    set
+/// Which sets of criteria are sufficient.
+#[derive(Drop)]
+pub enum Coalitions {
+    /// Those whose weights sum to at least 1.
+    Weights(Fixeds),
+    /// Those that contain one of these sets.
+    Roots(Masks),
 }
 
-/// Whether a set contains one of the roots.
-fn contains_root(set: u32, roots: &[u32]) -> bool
-    ensures { result ≡ list_any (λ root. is_inside root set) roots.now }
-{
-    roots.iter().any(|root| *root & set == *root)
+/// A profile for each criterion, in the problem's order, and coalitions for each boundary, boundary 1 first. Each
+/// profile has as many thresholds as there are coalitions.
+#[derive(Drop)]
+pub struct Model {
+    profiles: ListOf<Profile>,
+    coalitions: ListOf<Coalitions>,
 }
 
-/// The category that a model of the problem gives the grades: the greatest boundary that they reach, or 0
-/// where they reach none (Bouyssou and Marchant 2007). Takes no memory.
-pub fn sort(problem: &Problem, model: &RootsModel, grades: &[Grade]) -> u32
-    requires belongs { Belongs problem.now model.now }
-    requires grades { length grades.now ≡ length problem.now.criteria }
-    ensures category { result ≡ category (rule_of problem.now model.now) grades.now }
-    ensures bound { result < length problem.now.categories }
-{
-    let boundaries = problem.categories_count() - 1;
-    for place in (0..boundaries).rev() {
-        let set = accepted_set(problem, model, place, grades);
-        if contains_root(set, model.roots.row(place as usize)) {
-            return place + 1;
+impl marker::Model for Model {
+    ghost use Rattle.model_core.specs.Model.{ModelValue, IsModel};
+
+    ghost Value = { ModelValue };
+
+    ghost view = { λ m. record { profiles = m.profiles; coalitions = m.coalitions } };
+
+    ghost invariant = { λ m. IsModel m.profiles m.coalitions };
+}
+
+impl Model {
+    ghost use Rattle.model_core.specs.Model.{threshold_in, Belongs};
+
+    /// The model of these profiles and coalitions, which belong to the problem. Takes no memory.
+    pub fn new(problem: &Problem, profiles: Vec<Profile>, coalitions: Vec<Coalitions>) -> Model
+        requires { Belongs problem.now (record { profiles = profiles.items; coalitions = coalitions.items }) }
+        ensures { result ≡ record { profiles = profiles.items; coalitions = coalitions.items } }
+    {
+        let _criteria = problem.criteria_count();
+        let _categories = problem.categories_count();
+        Model {
+            profiles: ListOf::from_vec(profiles),
+            coalitions: ListOf::from_vec(coalitions),
         }
     }
-    0
+
+    /// All profiles, in the order of the criteria.
+    pub fn profiles(&self) -> &[Profile]
+        ensures { result.now ≡ self.now.profiles }
+    {
+        self.profiles.as_slice()
+    }
+
+    /// The profile of criterion `i`, from 0.
+    pub fn profile(&self, i: u32) -> &Profile
+        requires { i < length self.now.profiles }
+        ensures profile { slice_get self.now.profiles i ≡ Some result.now }
+        ensures thresholds { length result.now.thresholds ≡ length self.now.coalitions }
+    {
+        self.profiles.get(i)
+    }
+
+    /// The threshold of criterion `i`, from 0, at boundary `h`, from 1. `None` exactly when it is null.
+    pub fn threshold(&self, i: u32, h: u32) -> Option<Grade>
+        requires criterion { i < length self.now.profiles }
+        requires first { 1 ≤ h }
+        requires last { h ≤ length self.now.coalitions }
+        ensures { threshold_in self.now i (h - 1) ≡ Some result }
+    {
+        *self.profile(i).thresholds.get(h - 1)
+    }
+
+    /// The coalitions at a place of the boundaries, from 0.
+    pub(crate) fn coalitions_at(&self, place: u32) -> &Coalitions
+        requires { place < length self.now.coalitions }
+        ensures { slice_get self.now.coalitions place ≡ Some result.now }
+    {
+        self.coalitions.get(place)
+    }
+
+    /// The coalitions of all boundaries, boundary 1 first.
+    pub fn all_coalitions(&self) -> &[Coalitions]
+        ensures { result.now ≡ self.now.coalitions }
+    {
+        self.coalitions.as_slice()
+    }
+
+    /// The coalitions of boundary `h`, from 1.
+    pub fn coalitions(&self, h: u32) -> &Coalitions
+        requires first { 1 ≤ h }
+        requires last { h ≤ length self.now.coalitions }
+        ensures { slice_get self.now.coalitions (h - 1) ≡ Some result.now }
+    {
+        self.coalitions_at(h - 1)
+    }
 }

@@ -1,0 +1,14 @@
+pub mod Meaning
+pub mod Words
+pub mod Lookups
+pub mod RootReads
+pub mod Grades
+pub mod ModelReads
+pub mod ModelText
+pub mod PlaceTexts
+pub mod PutFacts
+pub mod PartTexts
+pub mod Examples
+pub mod FlowTexts
+pub mod RowTexts
+pub mod SameLists
