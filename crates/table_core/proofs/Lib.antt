@@ -8,3 +8,5 @@ pub mod PieceFacts
 pub mod WrittenFacts
 pub mod RowFacts
 pub mod RowsFacts
+pub mod ExampleFacts
+pub mod BelongFacts

@@ -6,3 +6,4 @@ pub mod Table
 pub mod Advance
 pub mod Rows
 pub mod Written
+pub mod Examples

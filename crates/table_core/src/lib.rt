@@ -1,6 +1,8 @@
 //! Tables of alternatives: their rows read, and written as records.
 #![tactic(auto)]
 
+mod classified;
+mod example_list;
 mod fault;
 mod header;
 mod leading;
@@ -11,8 +13,9 @@ mod table;
 #[cfg(test)]
 mod tests;
 
+pub use classified::examples;
+pub use example_list::Examples;
 pub use fault::{RowFault, TableFault};
 pub use put::{put_header, put_row, record_is_that_of_csv};
-pub use records::MOST_BYTES;
 pub use row::{Row, RowGrades, Texts};
 pub use table::Table;

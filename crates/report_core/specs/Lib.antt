@@ -1,0 +1,9 @@
+pub mod Fault
+pub mod Classified
+pub mod Prefix
+pub mod Pieces
+pub mod Restored
+pub mod Text
+pub mod Counts
+pub mod Described
+pub mod DescribedModel
