@@ -1,0 +1,7 @@
+use Rattle.std.proofs.Common.{◌+◌, ◌*◌}
+use Rattle.accepted_core.specs.Plain.{lower_row}
+use Rattle.accepted_core.proofs.TakesFacts.{TakesSo}
+use Rattle.accepted_core.proofs.shared.add_lower_rows.Given as goal
+
+abbrev pub invariant-loop-b : goal.invariant-loop-b
+invariant-loop-b l = TakesSo l.fn.formula l.formula (λ b. lower_row (l.first + b * l.count) l.count) l.b

@@ -1,0 +1,6 @@
+use Rattle.literals_core.specs.Formula.{plus}
+use Rattle.std.proofs.Common.{◌≡◌, map, take}
+use Rattle.coalition_core.proofs.members.with_plus.Given as goal
+
+abbrev pub invariant-loop-variable : goal.invariant-loop-variable
+invariant-loop-variable l = l.literals.items ≡ map plus (take l.variable-index l.row)

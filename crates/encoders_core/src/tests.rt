@@ -1,0 +1,81 @@
+//! What no clause says: that formulas are made with ample memory.
+use crate::{Encoding, encode};
+use chain_core::put_dimacs;
+use problem_core::{Grade, Problem, read_problem};
+use ranks_core::{EncodeFault, Ranks, fits_problem};
+use std::alloc::Global;
+use std::test::Fail;
+use table_core::Examples;
+use yaml_core::read_yaml;
+
+/// The bytes of 64 MiB.
+const MOST_BYTES: usize = 67_108_864;
+
+/// A problem of two categories and so many criteria, with whole numbers from 0 to 10.
+fn problem_of(alloc: Global, criteria: u32) -> Option<Problem> {
+    let mut file = format!(in alloc;
+        "kind: classification-problem\nformat_version: 1\ncriteria:\n"
+    ).ok()?;
+    for k in 0..criteria {
+        let lines = format!(in alloc;
+            "  - name: C{k}\n    value_type: integer\n    preference_direction: increasing\n    min_value: 0\n    max_value: 10\n"
+        ).ok()?;
+        file.push_str(lines.as_str()).ok()?;
+    }
+    file.push_str("ordered_categories:\n  - name: Bad\n  - name: Good\n")
+        .ok()?;
+    if file.len() > MOST_BYTES {
+        return None;
+    }
+    let node = read_yaml(alloc, file.as_bytes()).ok()?;
+    read_problem(alloc, &node).ok()
+}
+
+/// The text of the formula of examples, or the fault.
+fn text(
+    alloc: Global,
+    encoding: Encoding,
+    problem: &Problem,
+    examples: &Examples,
+) -> Result<Vec<u8>, EncodeFault> {
+    if !fits_problem(problem, examples) {
+        return Err(EncodeFault::NoMemory);
+    }
+    let ranks = Ranks::of(alloc, problem, examples)?;
+    let formula = encode(alloc, encoding, problem, examples, &ranks)?;
+    let mut out = Vec::new(alloc);
+    put_dimacs(&formula, &mut out)?;
+    Ok(out)
+}
+
+#[test]
+fn worse_on_each_criterion_in_the_better_category(rt: HostRuntime) -> Result<(), Fail> {
+    let alloc = rt.alloc();
+    let problem = problem_of(alloc, 2).ok_or("no problem")?;
+    let mut examples = Examples::empty(alloc);
+    examples.push(&[Grade::place(1), Grade::place(0)], 1)?;
+    examples.push(&[Grade::place(1), Grade::place(1)], 0)?;
+    let separation = text(alloc, Encoding::Separation, &problem, &examples)?;
+    let clauses = "p cnf 5 6\n-2 3 0\n-4 1 0\n-4 -1 0\n-5 2 0\n-5 -3 0\n4 5 0\n";
+    assert_eq!(rt; separation.as_slice(), clauses.as_bytes());
+    let coalitions = text(alloc, Encoding::Coalitions, &problem, &examples)?;
+    let clauses =
+        "p cnf 7 13\n-2 3 0\n-4 5 0\n-4 6 0\n-5 7 0\n-6 7 0\n-4 0\n-1 -5 0\n-3 -6 0\n-1 -3 -7 0\n7 0\n1 6 0\n2 5 0\n1 2 4 0\n";
+    assert_eq!(rt; coalitions.as_slice(), clauses.as_bytes());
+    Ok(())
+}
+
+#[test]
+fn thirteen_criteria_are_too_many_for_coalitions_alone(rt: HostRuntime) -> Result<(), Fail> {
+    let alloc = rt.alloc();
+    let problem = problem_of(alloc, 13).ok_or("no problem")?;
+    let mut examples = Examples::empty(alloc);
+    examples.push(&[Grade::place(0); 13], 1)?;
+    assert_eq!(rt;
+        text(alloc, Encoding::Separation, &problem, &examples)?.as_slice(),
+        "p cnf 13 0\n".as_bytes()
+    );
+    let wide = text(alloc, Encoding::Coalitions, &problem, &examples);
+    assert!(rt; matches!(wide, Err(EncodeFault::Wide)));
+    Ok(())
+}

@@ -1,0 +1,3 @@
+pub mod FitsFacts
+pub mod RankedFacts
+pub mod RanksFacts
