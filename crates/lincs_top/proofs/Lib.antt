@@ -1,5 +1,5 @@
-pub mod Steps
-pub mod RowFacts
-pub mod Reaches
-pub mod Classifying
-pub mod Stopped
+pub mod Came
+pub mod Ends
+pub mod Running
+mod Then
+mod SayLemmas

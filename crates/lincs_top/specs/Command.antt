@@ -1,32 +1,23 @@
--- The words of a command line, and the command that they give.
-use Rattle.std.specs.Prelude.{ℕ, Bool, not, ◌&&◌, List, [], ◌∷◌, Option, None, Some, map, codes, nat_eq, if◌then◌else◌, String}
-use Rattle.std.specs.List.{starts_with}
-use Rattle.std.specs.Str.{bytes_eq}
-use Rattle.std.specs.String.{string_bytes}
-use Rattle.std.specs.declared.alloc.Global.{Global}
-use Rattle.lincs_top.specs.declared.words.Job.{Job}
-use Rattle.lincs_top.specs.declared.words.Job.TheVariants.{Classify}
-
--- a command, by the names of its files
-pub data Command : Type 0 where
-  classifying : List ℕ → List ℕ → List ℕ → Command
-
-abbrev pub texts : List (String Global) → List (List ℕ)
-texts words = map string_bytes words
-
--- a word that names no file: it begins with `--`
-abbrev pub is_option : List ℕ → Bool
-is_option word = starts_with nat_eq word (codes "--")
-
--- the command that these words give, if they give one
-abbrev pub command_in : List (List ℕ) → Option Command
-command_in (verb ∷ problem ∷ model ∷ table ∷ []) =
-    if bytes_eq verb (codes "classify") && not (is_option problem) && not (is_option model) && not (is_option table) then Some (classifying problem model table) else None
-command_in _ = None
-
-abbrev pub command_of : Job → Command
-command_of (Classify problem model table) = classifying problem.now model.now table.now
+-- The files of a command, and how its output goes out.
+use Rattle.std.specs.Prelude.{ℕ, Bool, true, false, List, [], ◌∷◌}
+use Rattle.line_core.specs.Command.{Command, classifying, rating, learning, encoding, checking, describing_problem, describing_model, describing_table, generating_problem, generating_model, generating_table, rehearsing}
 
 -- the names of a command's files, in the order in which they are read
 abbrev pub names_of : Command → List (List ℕ)
 names_of (classifying problem model table) = problem ∷ model ∷ table ∷ []
+names_of (rating problem model table) = problem ∷ model ∷ table ∷ []
+names_of (learning problem table how most) = problem ∷ table ∷ []
+names_of (encoding problem table how) = problem ∷ table ∷ []
+names_of (checking problem table refutation) = problem ∷ table ∷ refutation ∷ []
+names_of (describing_problem problem) = problem ∷ []
+names_of (describing_model problem model) = problem ∷ model ∷ []
+names_of (describing_table problem table) = problem ∷ table ∷ []
+names_of (generating_problem criteria categories seed) = []
+names_of (generating_model problem seed) = problem ∷ []
+names_of (generating_table problem model rows seed) = problem ∷ model ∷ []
+names_of (rehearsing criteria categories rows seed) = []
+
+-- part of its output may be out when memory ends: its rows go out while they are read
+abbrev pub streams : Command → Bool
+streams (classifying problem model table) = true
+streams command = false

@@ -1,22 +1,19 @@
 -- How a command goes over files: its course.
-use Rattle.std.specs.Prelude.{◌≡◌, nat_lt, ℕ, Bool, false, List, Option, None, Some, Result, Ok, Err, length, ◌==◌, if◌then◌else◌}
-use Rattle.edge_core.specs.Outside.{Files, bytes_of}
-use Rattle.edge_core.specs.declared.whole_file.TheConstants.{MOST_BYTES}
-use Rattle.yaml_core.specs.Read.{reading}
-use Rattle.yaml_core.specs.declared.node.Node.{Node}
-use Rattle.lists_core.specs.Answers.{◌>>=◌}
-use Rattle.problem_core.specs.Problem.{ProblemValue}
-use Rattle.problem_core.specs.ReadProblem.{problem_of}
-use Rattle.table_core.specs.Table.{TableState, opening}
-use Rattle.model_core.specs.declared.model.RootsModel.{RootsModel}
-use Rattle.lincs_top.specs.declared.stop.Refusal.{Refusal}
-use Rattle.lincs_top.specs.declared.stop.Refusal.TheVariants as refusal
-use Rattle.lincs_top.specs.Command.{Command, classifying}
-use Rattle.model_core.specs.ReadModel.{model_of}
-use Rattle.lincs_top.specs.Classified.{classified_end}
-use Rattle.lincs_top.specs.Ending.{End, unread, refused, Ending, silent}
+use Rattle.std.specs.Prelude.{◌≡◌, ◌+◌, ℕ, Bool, false, List, Option, None, Some, Result, Ok, Err, ◌==◌, if◌then◌else◌}
+use Rattle.edge_core.specs.Outside.{Files}
+use Rattle.table_core.specs.Rows.{rows_left}
+use Rattle.model_core.specs.Model.{rule_of}
+use Rattle.report_core.specs.Classified.{classified_text}
+use Rattle.report_core.specs.Described.{problem_description, table_description}
+use Rattle.report_core.specs.DescribedModel.{model_description}
+use Rattle.lincs_top.specs.Output.{accuracy_text, end_of_rows, end_of_text, text_or_none}
+use Rattle.line_core.specs.Command.{Command, classifying, rating, describing_problem, describing_model, describing_table}
+use Rattle.lincs_top.specs.declared.stop.Verdict.TheVariants.{Done}
+use Rattle.lincs_top.specs.End.{End, gave, unread, Outcome, silent}
+use Rattle.lincs_top.specs.FileGives.{FileStep, given, problem_in, model_in, table_in, examples_in}
 
--- what a course meets: the files, and the place among the command's files of the one that can't be read, if there is one
+-- what a course meets: the files, and the place among the command's files of the one that can't be read, if
+-- there is one
 pub record World : Type 0 where
   pub files : Files
   pub unreadable : Option ℕ
@@ -31,43 +28,53 @@ abbrev pub is_at : Option ℕ → ℕ → Bool
 is_at None place = false
 is_at (Some other) place = other == place
 
--- what a reader refuses is refused as this file's
-abbrev pub refusing : {A F : Type 0} → List ℕ → (F → Refusal) → Result A F → Result A End
-refusing name cause (Ok value) = Ok value
-refusing name cause (Err fault) = Err (refused name (cause fault))
+-- what a step gives in a world, as that of the file at a place
+abbrev pub given_in : {A : Type 0} → FileStep A → World → ℕ → List ℕ → Result A End
+given_in step world place name =
+    if is_at world.unreadable place then Err (unread name) else given step world.files name
 
--- the bytes of a file: it can't be read, is too long, or gives them
-abbrev pub file_at : World → ℕ → List ℕ → Result (List ℕ) End
-file_at world place name = if is_at world.unreadable place then Err (unread name)
-    else if nat_lt MOST_BYTES (length (bytes_of world.files name)) then Err (refused name refusal.TooLong)
-    else Ok (bytes_of world.files name)
+-- the course goes on with a value, or ends there with no output
+abbrev pub Goes : {A : Type 0} → ℕ → Result A End → (A → ℕ → World → Outcome → Type 0) → World → Outcome → Type 0
+Goes opened (Ok value) next world outcome = next value opened world outcome
+Goes opened (Err end) next world outcome = outcome ≡ silent opened end
 
--- the tree of a file, which is YAML
-abbrev pub tree_at : World → ℕ → List ℕ → Result Node End
-tree_at world place name = file_at world place name >>= λ bytes. refusing name refusal.Yaml (reading bytes)
+-- the next file is opened, after so many, and read by a step: the course goes on with its value, or ends there
+pub record Reads {A : Type 0} (step : FileStep A) (name : List ℕ) (next : A → ℕ → World → Outcome → Type 0) (opened : ℕ) (world : World) (outcome : Outcome) : Type 0 where
+  pub goes : Goes (opened + 1) (given_in step world opened name) next world outcome
 
-abbrev pub problem_at : World → ℕ → List ℕ → Result ProblemValue End
-problem_at world place name = tree_at world place name >>= λ node. refusing name refusal.Problem (problem_of node)
+-- the course ends so, and this text is the output
+pub record Writes (end : End) (text : List ℕ) (opened : ℕ) (world : World) (outcome : Outcome) : Type 0 where
+  pub is : outcome ≡ record { end = end; output = text; opened = opened }
 
-abbrev pub model_at : ProblemValue → World → ℕ → List ℕ → Result RootsModel End
-model_at problem world place name = tree_at world place name >>= λ node. refusing name refusal.Model (model_of problem node)
+-- a command that is not built has no course
+abbrev pub NotBuilt : ℕ → World → Outcome → Type 0
+NotBuilt opened world outcome = ⊥
 
-abbrev pub table_at : ProblemValue → World → ℕ → List ℕ → Result TableState End
-table_at problem world place name = file_at world place name >>= λ bytes. refusing name refusal.Table (opening problem bytes)
-
--- the course goes on with a step's value, or ends there with no output and no file opened after those so far
-abbrev pub Step : {A : Type 0} → ℕ → Result A End → (A → Ending → Type 0) → Ending → Type 0
-Step opened (Ok value) next ending = next value ending
-Step opened (Err end) next ending = ending ≡ silent opened end
-
--- the problem, the model and the table are read in this order, each accepted before the next is opened; then the rows go out
-abbrev pub Classifies : List ℕ → List ℕ → List ℕ → World → Ending → Type 0
-Classifies problem_name model_name table_name world =
-    Step 1 (problem_at world 0 problem_name) (λ problem.
-    Step 2 (model_at problem world 1 model_name) (λ model.
-    Step 3 (table_at problem world 2 table_name) (λ table ending.
-    ending ≡ classified_end table_name problem model table)))
+-- the course of a command, after so many files
+abbrev pub course : Command → ℕ → World → Outcome → Type 0
+course (classifying problem_name model_name table_name) =
+    Reads problem_in problem_name (λ problem.
+    Reads (model_in problem) model_name (λ model.
+    Reads (table_in problem) table_name (λ table.
+    Writes (end_of_rows table_name (rows_left problem table).1) (classified_text problem (rule_of problem model) table))))
+course (rating problem_name model_name table_name) =
+    Reads problem_in problem_name (λ problem.
+    Reads (model_in problem) model_name (λ model.
+    Reads (examples_in problem) table_name (λ examples.
+    Writes (gave Done) (accuracy_text (rule_of problem model) examples))))
+course (describing_problem problem_name) =
+    Reads problem_in problem_name (λ problem.
+    Writes (gave Done) (problem_description problem))
+course (describing_model problem_name model_name) =
+    Reads problem_in problem_name (λ problem.
+    Reads (model_in problem) model_name (λ model.
+    Writes (gave Done) (model_description problem model)))
+course (describing_table problem_name table_name) =
+    Reads problem_in problem_name (λ problem.
+    Reads (table_in problem) table_name (λ table.
+    Writes (end_of_text table_name (table_description problem table)) (text_or_none (table_description problem table))))
+course command = NotBuilt
 
 -- a course of the command ends so
-abbrev pub Ends : Command → World → Ending → Type 0
-Ends (classifying problem model table) = Classifies problem model table
+abbrev pub Ends : Command → World → Outcome → Type 0
+Ends command = course command 0

@@ -1,59 +1,104 @@
 -- What a command's function does, measured by the command's course.
-use Rattle.std.specs.Prelude.{◌≡◌, ◌⊎◌, ◌<◌, ◌++◌, ℕ, List, Some, take, Result, Ok, Err, Contains}
-use Rattle.std.specs.Option.{ForSome}
-use Rattle.std.specs.Io.KnownBytes.{Appends, Keeps}
-use Rattle.edge_core.specs.Outside.{ShelfState, SinkState, Rose, AppendsPart}
-use Rattle.lincs_top.specs.Rows.{AppendsPrefix}
-use Rattle.edge_core.specs.declared.whole_file.TheConstants.{MOST_BYTES}
-use Rattle.lincs_top.specs.declared.stop.Refusal.{Refusal}
-use Rattle.lincs_top.specs.declared.stop.Refusal.TheVariants.{TooLong}
+use Rattle.std.specs.Prelude.{◌≡◌, ◌⊎◌, ◌≤◌, ◌++◌, ℕ, true, List, [], ◌∷◌, Option, Some, take, Result, Contains, All, IsTrue, ⊤}
+use Rattle.std.specs.Io.KnownBytes.{Appends}
+use Rattle.edge_core.specs.Outside.{Files, ShelfState, SinkState, KeepsHeld, Rose, AppendsPart}
+use Rattle.lincs_top.specs.declared.stop.Verdict.{Verdict}
+use Rattle.lincs_top.specs.declared.stop.Verdict.TheVariants.{Done}
 use Rattle.lincs_top.specs.declared.stop.Stop.{Stop}
-use Rattle.lincs_top.specs.declared.stop.Stop.TheVariants.{Unread, Unwritten, Refused, NoMemory}
-use Rattle.lincs_top.specs.Ending.{End, done, unread, refused, Ending}
-use Rattle.lincs_top.specs.Course.{Ends, readable, unreadable_at}
-use Rattle.lincs_top.specs.Command.{Command, names_of}
+use Rattle.line_core.specs.Command.{Command, classifying, rating, describing_problem, describing_model, describing_table}
+use Rattle.lincs_top.specs.Command.{names_of, streams}
+use Rattle.lincs_top.specs.Course.{World, Ends, readable, unreadable_at}
+use Rattle.report_core.specs.Prefix.{AppendsPrefix}
+use Rattle.lincs_top.specs.End.{End, gave, unread, refused, over, Outcome}
+use Rattle.lincs_top.specs.FileStep.{HasCauseIn}
+use Rattle.lincs_top.specs.Report.{Report, at_end, usage, unwritten, no_memory}
+use Rattle.lincs_top.specs.Stop.{report_of}
+
+-- the command's files may be opened
+abbrev pub MayOpen : ShelfState → Command → Type 0
+MayOpen shelf command = All (λ name. IsTrue (shelf.may_open name)) (names_of command)
+
+-- the verdicts that a command can give, whatever its files hold
+abbrev pub CanGive : Command → Verdict → Type 0
+CanGive (classifying problem model table) verdict = verdict ≡ Done
+CanGive (rating problem model table) verdict = verdict ≡ Done
+CanGive (describing_problem problem) verdict = verdict ≡ Done
+CanGive (describing_model problem model) verdict = verdict ≡ Done
+CanGive (describing_table problem table) verdict = verdict ≡ Done
+CanGive command verdict = ⊥
+
+-- the ends that a command can come to, whatever its files hold
+abbrev pub CanEnd : Command → End → Type 0
+CanEnd command (gave verdict) = CanGive command verdict
+CanEnd command (unread name) = Contains (names_of command) name
+CanEnd command (refused name refusal) = Contains (names_of command) name
+CanEnd command (over size) = ⊥
+
+-- the shelf tells that it holds these files; if no file is named, it need tell none
+abbrev pub TellsOf : List (List ℕ) → Option Files → Files → Type 0
+TellsOf [] held files = ⊤
+TellsOf (name ∷ names) held files = held ≡ Some files
+
+abbrev pub Tells : Command → ShelfState → Files → Type 0
+Tells command shelf files = TellsOf (names_of command) shelf.held files
 
 -- the first files of the command, so many, were opened, in order and each once
 abbrev pub OpensFirst : Command → ℕ → ShelfState → ShelfState → Type 0
 OpensFirst command count shelf shelf' = shelf'.asked ≡ shelf.asked ++ take count (names_of command)
 
--- over the files that the shelf tells a course ends so: its whole output went out, and no file was opened but its own
-abbrev pub EndsSo : Command → ShelfState → ShelfState → SinkState → SinkState → (End → Type 0) → Type 0
-EndsSo command shelf shelf' out out' IsEnd = ForSome shelf.held (λ files. (ending : Ending) × Ends command (readable files) ending
-    × IsEnd ending.end × Appends out.written out'.written ending.output × OpensFirst command ending.opened shelf shelf')
+-- over told files a course in this world ends in this way, and no file was opened but its own
+abbrev pub SomeCourse : Command → ShelfState → ShelfState → (Files → World) → (Outcome → Type 0) → Type 0
+SomeCourse command shelf shelf' world Is =
+    (files : Files) → Tells command shelf files → (outcome : Outcome) × Ends command (world files) outcome
+    × Is outcome × OpensFirst command outcome.opened shelf shelf'
 
--- a part of the output of a course went out, and something was still to go; no file was opened but the course's own
+-- over told files a course ends so, and its whole output went out
+abbrev pub EndsSo : Command → ShelfState → ShelfState → SinkState → SinkState → End → Type 0
+EndsSo command shelf shelf' out out' end =
+    SomeCourse command shelf shelf' readable (λ outcome. (outcome.end ≡ end) × Appends out.written out'.written outcome.output)
+
+-- a part of the output of a course went out, and something was still to go
 abbrev pub WritesPart : Command → ShelfState → ShelfState → SinkState → SinkState → Type 0
-WritesPart command shelf shelf' out out' = ForSome shelf.held (λ files. (ending : Ending) × Ends command (readable files) ending
-    × AppendsPart out.written out'.written ending.output × OpensFirst command ending.opened shelf shelf')
+WritesPart command shelf shelf' out out' =
+    SomeCourse command shelf shelf' readable (λ outcome. AppendsPart out.written out'.written outcome.output)
 
--- a file of the command was missed after the files before it passed their steps, and none was opened after it
+-- out of memory, nothing was written; but if the command streams, a prefix of the output of a course
+abbrev pub LeavesOnNoMemory : Command → ShelfState → ShelfState → SinkState → SinkState → Type 0
+LeavesOnNoMemory command shelf shelf' out out' = (out' ≡ out)
+    ⊎ ((streams command ≡ true) × SomeCourse command shelf shelf' readable (λ outcome. AppendsPrefix out.written out'.written outcome.output))
+
+-- a file was missed after the files before it passed their steps, and none was opened after it
 pub record Misses (command : Command) (shelf shelf' : ShelfState) (name : List ℕ) : Type 0 where
+  pub rose : Rose shelf.faults shelf'.faults
   pub missed : shelf'.missed ≡ Some name
-  pub named : Contains (names_of command) name
-  pub reached : ForSome shelf.held (λ files. (place : ℕ) × (ending : Ending) × Ends command (unreadable_at files place) ending
-      × (ending.end ≡ unread name) × OpensFirst command ending.opened shelf shelf')
+  pub place : ℕ
+  pub reached : SomeCourse command shelf shelf' (λ files. unreadable_at files place) (λ outcome. outcome.end ≡ unread name)
 
--- where memory is refused nothing was written, or a prefix of the output of a course
-abbrev pub LeavesOnNoMemory : Command → ShelfState → SinkState → SinkState → Type 0
-LeavesOnNoMemory command shelf out out' = Keeps out.written out'.written
-    ⊎ ForSome shelf.held (λ files. (ending : Ending) × Ends command (readable files) ending × AppendsPrefix out.written out'.written ending.output)
+-- the causes of a command's end
+abbrev pub Causes : Command → ShelfState → ShelfState → SinkState → SinkState → Report → Type 0
+Causes command shelf shelf' out out' (at_end (gave verdict)) =
+    CanEnd command (gave verdict) × EndsSo command shelf shelf' out out' (gave verdict)
+Causes command shelf shelf' out out' (at_end (unread name)) =
+    CanEnd command (unread name) × Misses command shelf shelf' name × (out' ≡ out)
+Causes command shelf shelf' out out' (at_end (refused name refusal)) =
+    CanEnd command (refused name refusal) × EndsSo command shelf shelf' out out' (refused name refusal)
+    × HasCauseIn shelf' name refusal
+Causes command shelf shelf' out out' (at_end (over size)) =
+    CanEnd command (over size) × EndsSo command shelf shelf' out out' (over size)
+Causes command shelf shelf' out out' unwritten =
+    Rose out.faults out'.faults × WritesPart command shelf shelf' out out'
+Causes command shelf shelf' out out' no_memory = LeavesOnNoMemory command shelf shelf' out out'
+Causes command shelf shelf' out out' (usage fault) = ⊥
 
--- a file of the command was refused
-pub record WasRefused (command : Command) (shelf shelf' : ShelfState) (out out' : SinkState) (name : List ℕ) (refusal : Refusal) : Type 0 where
-  pub ended : EndsSo command shelf shelf' out out' (λ end. end ≡ refused name refusal)
-  pub named : Contains (names_of command) name
-  pub taken : refusal ≡ TooLong → MOST_BYTES < shelf'.taken
-
--- what a command's function did, by its answer
-abbrev pub StandsAs : Command → ShelfState → ShelfState → SinkState → SinkState → Result (Unit {0}) Stop → Type 0
-StandsAs command shelf shelf' out out' (Ok _) = EndsSo command shelf shelf' out out' (λ end. end ≡ done)
-StandsAs command shelf shelf' out out' (Err (Unread name)) = Rose shelf.faults shelf'.faults × Misses command shelf shelf' name.now × (out' ≡ out)
-StandsAs command shelf shelf' out out' (Err Unwritten) = Rose out.faults out'.faults × WritesPart command shelf shelf' out out'
-StandsAs command shelf shelf' out out' (Err (Refused name refusal)) = WasRefused command shelf shelf' out out' name.now refusal
-StandsAs command shelf shelf' out out' (Err NoMemory) = LeavesOnNoMemory command shelf out out'
+-- what holds however a command ends: what the shelf holds stays, the counts don't fall, and the command's files
+-- were opened in order, each at most once
+pub record Keeps (command : Command) (shelf shelf' : ShelfState) (out out' : SinkState) : Type 0 where
+  pub held : KeepsHeld shelf shelf'
+  pub shelf_later : shelf.faults ≤ shelf'.faults
+  pub out_later : out.faults ≤ out'.faults
+  pub asked : (count : ℕ) × OpensFirst command count shelf shelf'
 
 -- what a command's function does
-pub record Obeys (command : Command) (shelf shelf' : ShelfState) (out out' : SinkState) (result : Result (Unit {0}) Stop) : Type 0 where
-  pub answers : StandsAs command shelf shelf' out out' result
-  pub asked : (count : ℕ) × OpensFirst command count shelf shelf'
+pub record Obeys (command : Command) (shelf shelf' : ShelfState) (out out' : SinkState) (result : Result Verdict Stop) : Type 0 where
+  pub keeps : Keeps command shelf shelf' out out'
+  pub causes : Causes command shelf shelf' out out' (report_of result)

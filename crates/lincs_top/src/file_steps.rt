@@ -1,20 +1,21 @@
 //! The steps of the files: each opens one file and reads what it holds.
 ghost use Rattle.std.specs.Prelude.{◌≡◌, IsTrue, IfOk};
 ghost use Rattle.model_core.specs.Model.{Belongs};
+ghost use Rattle.table_core.specs.Examples.{BelongTo};
 ghost use Rattle.table_core.specs.Table.{IsTableOf};
-ghost use Rattle.lincs_top.specs.Course.{tree_at, problem_at, model_at, table_at};
-ghost use Rattle.lincs_top.specs.Refusal.{yaml_refusal, problem_refusal, model_refusal, table_refusal};
-ghost use Rattle.lincs_top.specs.FileStep.{StepsAs, StepsAsBytes, OpensOne};
+ghost use Rattle.lincs_top.specs.FileGives.{tree_in, problem_in, model_in, table_in, examples_in};
+ghost use Rattle.lincs_top.specs.Refusal.{yaml_refusal, problem_refusal, model_refusal, table_refusal, row_refusal};
+ghost use Rattle.lincs_top.specs.FileStep.{TakesBytes, TakesStep};
 
 use crate::stop::{Refusal, Stop};
 use edge_core::{LoadFault, Shelf, load};
-use model_core::{ModelFault, RootsModel, read_model};
+use model_core::{Model, ModelFault, read_model};
 use problem_core::{Problem, ProblemFault, read_problem};
 use std::alloc::Global;
-use table_core::{Table, TableFault};
+use table_core::{Examples, RowFault, Table, TableFault, examples};
 use yaml_core::{Node, YamlFault, read_yaml};
 
-// What a reader's fault refuses a file for; nothing where memory was refused.
+// What a reader's fault refuses a file for; out of memory is no refusal.
 fn yaml_refusal(fault: YamlFault) -> Option<Refusal>
     ensures { result ≡ yaml_refusal fault }
 {
@@ -51,11 +52,19 @@ fn table_refusal(fault: TableFault) -> Option<Refusal>
     }
 }
 
+fn row_refusal(fault: RowFault) -> Option<Refusal>
+    ensures { result ≡ row_refusal fault }
+{
+    match fault {
+        RowFault::NoMemory => None,
+        _ => Some(Refusal::Row(fault)),
+    }
+}
+
 // The bytes of a file.
 fn read_file<'a, S: Shelf>(alloc: Global, shelf: &mut S, name: &'a str) -> Result<Vec<u8>, Stop<'a>>
     requires { IsTrue ((S.state shelf.old).may_open name.now) }
-    ensures opens { OpensOne (S.state shelf.old) (S.state shelf.new) name.now }
-    ensures step { StepsAsBytes (S.state shelf.old) (S.state shelf.new) name.now result }
+    ensures { TakesBytes (S.state shelf.old) (S.state shelf.new) name.now result }
 {
     match load(alloc, shelf, name) {
         Ok(bytes) => Ok(bytes),
@@ -68,8 +77,7 @@ fn read_file<'a, S: Shelf>(alloc: Global, shelf: &mut S, name: &'a str) -> Resul
 // The tree of a file.
 fn read_tree<'a, S: Shelf>(alloc: Global, shelf: &mut S, name: &'a str) -> Result<Node, Stop<'a>>
     requires { IsTrue ((S.state shelf.old).may_open name.now) }
-    ensures opens { OpensOne (S.state shelf.old) (S.state shelf.new) name.now }
-    ensures step { StepsAs (S.state shelf.old) (S.state shelf.new) tree_at name.now result }
+    ensures step { TakesStep (S.state shelf.old) (S.state shelf.new) tree_in name.now result }
 {
     let bytes = read_file(alloc, shelf, name)?;
     match read_yaml(alloc, &bytes) {
@@ -85,8 +93,7 @@ pub fn problem_of_file<'a, S: Shelf>(
     name: &'a str,
 ) -> Result<Problem, Stop<'a>>
     requires { IsTrue ((S.state shelf.old).may_open name.now) }
-    ensures opens { OpensOne (S.state shelf.old) (S.state shelf.new) name.now }
-    ensures step { StepsAs (S.state shelf.old) (S.state shelf.new) problem_at name.now result }
+    ensures step { TakesStep (S.state shelf.old) (S.state shelf.new) problem_in name.now result }
 {
     let node = read_tree(alloc, shelf, name)?;
     match read_problem(alloc, &node) {
@@ -101,10 +108,9 @@ pub fn model_of_file<'a, S: Shelf>(
     problem: &Problem,
     shelf: &mut S,
     name: &'a str,
-) -> Result<RootsModel, Stop<'a>>
+) -> Result<Model, Stop<'a>>
     requires { IsTrue ((S.state shelf.old).may_open name.now) }
-    ensures opens { OpensOne (S.state shelf.old) (S.state shelf.new) name.now }
-    ensures step { StepsAs (S.state shelf.old) (S.state shelf.new) (model_at problem.now) name.now result }
+    ensures step { TakesStep (S.state shelf.old) (S.state shelf.new) (model_in problem.now) name.now result }
     ensures belongs { IfOk result (Belongs problem.now) }
 {
     let node = read_tree(alloc, shelf, name)?;
@@ -122,13 +128,30 @@ pub fn table_of_file<'a, S: Shelf>(
     name: &'a str,
 ) -> Result<Table, Stop<'a>>
     requires { IsTrue ((S.state shelf.old).may_open name.now) }
-    ensures opens { OpensOne (S.state shelf.old) (S.state shelf.new) name.now }
-    ensures step { StepsAs (S.state shelf.old) (S.state shelf.new) (table_at problem.now) name.now result }
+    ensures step { TakesStep (S.state shelf.old) (S.state shelf.new) (table_in problem.now) name.now result }
     ensures fits { IfOk result (IsTableOf problem.now) }
 {
     let bytes = read_file(alloc, shelf, name)?;
     match Table::open(alloc, problem, bytes) {
         Ok(table) => Ok(table),
         Err(fault) => Err(Stop::refusing(name, table_refusal(fault))),
+    }
+}
+
+/// The examples of a table's file: its rows that have a category.
+pub fn examples_of_file<'a, S: Shelf>(
+    alloc: Global,
+    problem: &Problem,
+    shelf: &mut S,
+    name: &'a str,
+) -> Result<Examples, Stop<'a>>
+    requires { IsTrue ((S.state shelf.old).may_open name.now) }
+    ensures step { TakesStep (S.state shelf.old) (S.state shelf.new) (examples_in problem.now) name.now result }
+    ensures belong { IfOk result (BelongTo problem.now) }
+{
+    let table = table_of_file(alloc, problem, shelf, name)?;
+    match examples(alloc, problem, table) {
+        Ok(examples) => Ok(examples),
+        Err(fault) => Err(Stop::refusing(name, row_refusal(fault))),
     }
 }

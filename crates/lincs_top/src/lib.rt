@@ -1,12 +1,18 @@
 //! The whole program as one call over any files and outputs.
 #![tactic(auto)]
 
+mod accuracy;
 mod classify;
+mod deliver;
+mod describe;
+mod fault_numbers;
 mod file_steps;
+mod line;
+mod process;
 mod program;
-mod rows;
+mod status;
 mod stop;
-mod words;
 
-pub use program::{run, run_safely};
-pub use stop::{Status, status_number};
+pub use process::start;
+pub use program::run;
+pub use status::{Status, exit_code};

@@ -1,37 +1,70 @@
 //! The top call.
-ghost use Rattle.std.specs.Prelude.{◌≡◌, ◌↔◌, ◌⊎◌, None};
-ghost use Rattle.std.specs.Option.{ForSome};
-ghost use Rattle.edge_core.specs.Outside.{Rose};
-ghost use Rattle.edge_core.specs.SafeShelf.{safe_shelf_state};
-ghost use Rattle.lincs_top.specs.Command.{texts, command_in, command_of};
-ghost use Rattle.lincs_top.specs.Obeys.{Obeys};
-ghost use Rattle.lincs_top.specs.Run.{MayOpen, IsBuilt, IsCourseStatus, CourseEnds, CourseWrites, MissesAFile, MemoryLeaves, OpensInOrder};
+ghost use Rattle.std.specs.Prelude.{◌≡◌, ◌≢◌, ◌↔◌, Err, IsTrue, IsErr};
+ghost use Rattle.line_core.specs.Command.{command_of, verb_of};
+ghost use Rattle.line_core.specs.Commands.{is_built};
+ghost use Rattle.line_core.specs.Line.{line_gives};
+ghost use Rattle.line_core.specs.Texts.{texts};
+ghost use Rattle.lincs_top.specs.Obeys.{MayOpen, Obeys};
+ghost use Rattle.lincs_top.specs.Run.{MayOpenIn, DoesLine, Reports, StatusTells, Completes};
 
+use crate::accuracy::rate;
 use crate::classify::classify;
-use crate::stop::{Status, Stop};
-use crate::words::{Job, read_words};
-use edge_core::{SafeShelf, SafeSink, Shelf, Sink};
+use crate::describe::{tell_model, tell_problem, tell_table};
+use crate::line::write_line;
+use crate::status::Status;
+use crate::stop::{Stop, Verdict, status_of};
+use edge_core::{Shelf, Sink};
+use line_core::{Job, read_line};
 use std::alloc::Global;
 
-// Does what the words asked for.
+// Does a job of a command that is built.
 fn obey<'a, S: Shelf, O: Sink>(
     alloc: Global,
     job: Job<'a>,
     shelf: &mut S,
     out: &mut O,
-) -> Result<(), Stop<'a>>
-    requires { MayOpen (S.state shelf.old) (command_of job) }
+) -> Result<Verdict, Stop<'a>>
+    requires names { MayOpen (S.state shelf.old) (command_of job) }
+    requires built { IsTrue (is_built (verb_of (command_of job))) }
     ensures { Obeys (command_of job.entry) (S.state shelf.old) (S.state shelf.new) (O.state out.old) (O.state out.new) result }
 {
     match job {
-        Job::Classify(problem, model, table) => {
-            classify(alloc, problem, model, table, shelf, out)
-        }
+        Job::Classify {
+            problem,
+            model,
+            table,
+        } => { classify(alloc, problem, model, table, shelf, out) }
+        Job::Accuracy {
+            problem,
+            model,
+            table,
+        } => rate(alloc, problem, model, table, shelf, out),
+        Job::DescribeProblem { problem } => tell_problem(alloc, problem, shelf, out),
+        Job::DescribeModel { problem, model } => tell_model(alloc, problem, model, shelf, out),
+        Job::DescribeTable { problem, table } => tell_table(alloc, problem, table, shelf, out),
+        _ => unreachable!(),
     }
 }
 
-/// Does all that the program does: reads the files that the words name from `shelf`, writes the
-/// answer to `out`, and answers the status. Nothing is written to `err` yet.
+// Reads the command line and does its job.
+fn do_line<'a, S: Shelf, O: Sink>(
+    alloc: Global,
+    words: &'a [String],
+    shelf: &mut S,
+    out: &mut O,
+) -> Result<Verdict, Stop<'a>>
+    requires { MayOpenIn (S.state shelf.old) (line_gives (texts words.now)) }
+    ensures { DoesLine (line_gives (texts words.now)) (S.state shelf.old) (S.state shelf.new) (O.state out.old) (O.state out.new) result }
+{
+    match read_line(words) {
+        Ok(job) => obey(alloc, job, shelf, out),
+        Err(fault) => Err(Stop::Usage(fault)),
+    }
+}
+
+/// Does all that the program does. `words` are those after the program's name. The files that they name
+/// are read from `shelf`, the output goes to `out`, and the error line of a run that needs one goes to
+/// `err`. An `err` that fails changes nothing else, and writing the line takes no memory.
 pub fn run<S: Shelf, O: Sink, E: Sink>(
     alloc: Global,
     words: &[String],
@@ -39,58 +72,26 @@ pub fn run<S: Shelf, O: Sink, E: Sink>(
     out: &mut O,
     err: &mut E,
 ) -> Status
-    // It can open no file but those of the words' command.
-    requires { ForSome (command_in (texts words.now)) (MayOpen (S.state shelf.old)) }
+    // It can open no file but those of the line's job.
+    requires { MayOpenIn (S.state shelf.old) (line_gives (texts words.now)) }
 
-    ensures opens { OpensInOrder (texts words.now) (S.state shelf.old) (S.state shelf.new) }
-    ensures err_silent { E.state err.new ≡ E.state err.old }
-    ensures built { IsBuilt result }
+    // There is one report of the run, with this status, these causes and this error line.
+    ensures report { Reports (line_gives (texts words.now)) (S.state shelf.old) (S.state shelf.new)
+        (O.state out.old) (O.state out.new) (E.state err.old) (E.state err.new) result }
 
-    ensures usage { (result ≡ Status.Usage) ↔ (command_in (texts words.now) ≡ None) }
-    ensures usage_silent { result ≡ Status.Usage → O.state out.new ≡ O.state out.old }
+    // What follows from it.
+    ensures usage { (result ≡ Status.Usage) ↔ IsErr (line_gives (texts words.now)) }
+    ensures tells { StatusTells (line_gives (texts words.now)) (S.state shelf.old) (S.state shelf.new)
+        (O.state out.old) (O.state out.new) result }
+    ensures complete { Completes (line_gives (texts words.now)) (S.state shelf.old) (S.state shelf.new)
+        (O.state out.old) (O.state out.new) result }
+    ensures quiet { result ≡ Status.Done → E.state err.new ≡ E.state err.old }
 
-    // Done and Refused, and the ends of later commands, are ends of a course over the told files.
-    ensures course { IsCourseStatus result → CourseEnds (texts words.now) (S.state shelf.old) (S.state shelf.new) (O.state out.old) (O.state out.new) result }
-
-    // A fault comes only where its count rose.
-    ensures read_fault { result ≡ Status.ReadFault → Rose (S.state shelf.old).faults (S.state shelf.new).faults }
-    ensures read_silent { result ≡ Status.ReadFault → O.state out.new ≡ O.state out.old }
-    ensures read_missed { result ≡ Status.ReadFault → MissesAFile (texts words.now) (S.state shelf.old) (S.state shelf.new) }
-    ensures write_fault { result ≡ Status.WriteFault → Rose (O.state out.old).faults (O.state out.new).faults }
-    ensures write_prefix { result ≡ Status.WriteFault → CourseWrites (texts words.now) (S.state shelf.old) (S.state shelf.new) (O.state out.old) (O.state out.new) }
-
-    ensures memory_leaves { result ≡ Status.NoMemory → MemoryLeaves (texts words.now) (S.state shelf.old) (O.state out.old) (O.state out.new) }
-
-    // It ends as a course does, where no count rose and there was memory.
-    ensures complete { (Rose (S.state shelf.old).faults (S.state shelf.new).faults → ⊥)
-        → (Rose (O.state out.old).faults (O.state out.new).faults → ⊥)
-        → (result ≡ Status.Usage) ⊎ (result ≡ Status.NoMemory)
-        ⊎ CourseEnds (texts words.now) (S.state shelf.old) (S.state shelf.new) (O.state out.old) (O.state out.new) result }
+    // A shelf and an output that count no fault have none.
+    ensures safe_shelf { (S.state shelf.new).faults ≡ 0 → result ≢ Status.ReadFault }
+    ensures safe_out { (O.state out.new).faults ≡ 0 → result ≢ Status.WriteFault }
 {
-    let _ = err;
-    let Some(job) = read_words(words) else {
-        return Status::Usage;
-    };
-    match obey(alloc, job, shelf, out) {
-        Ok(()) => Status::Done,
-        Err(stop) => stop.status(),
-    }
-}
-
-/// Over a shelf and an output that never fail, a run ends as a course does, unless the words are no
-/// command or memory is refused. No fault is answered.
-pub fn run_safely<E: Sink>(
-    alloc: Global,
-    words: &[String],
-    shelf: &mut SafeShelf,
-    out: &mut SafeSink,
-    err: &mut E,
-) -> Status
-    ensures no_read_fault { result ≡ Status.ReadFault → ⊥ }
-    ensures no_write_fault { result ≡ Status.WriteFault → ⊥ }
-    ensures usage { (result ≡ Status.Usage) ↔ (command_in (texts words.now) ≡ None) }
-    ensures complete { (result ≡ Status.Usage) ⊎ (result ≡ Status.NoMemory)
-        ⊎ CourseEnds (texts words.now) (safe_shelf_state shelf.old) (safe_shelf_state shelf.new) (⟦<SafeSink as Sink>⟧.state out.old) (⟦<SafeSink as Sink>⟧.state out.new) result }
-{
-    run(alloc, words, shelf, out, err)
+    let end = do_line(alloc, words, shelf, out);
+    write_line(err, &end);
+    status_of(&end)
 }

@@ -1,50 +1,26 @@
-//! How the program ends.
+//! How a command ends.
 ghost use Rattle.std.specs.Prelude.{◌≡◌};
-ghost use Rattle.lincs_top.specs.Stop.{status_of, stop_of, number_of};
+ghost use Rattle.lincs_top.specs.Stop.{stop_of, report_of};
+ghost use Rattle.lincs_top.specs.Report.{status_of_report};
 
+use crate::status::Status;
+use line_core::LineFault;
 use model_core::ModelFault;
 use problem_core::ProblemFault;
 use table_core::{RowFault, TableFault};
 use yaml_core::YamlFault;
 
-/// How a run ends.
+/// What a command finds at the end of its course. The whole output went out.
 #[derive(Clone, Copy, Debug, PartialEq, Eq)]
-pub enum Status {
-    /// The whole output went out.
+pub enum Verdict {
+    /// It did what it was asked for.
     Done,
-    /// The question was answered with no.
+    /// The answer is no.
     No,
-    /// The words are no command.
-    Usage,
-    /// A file could not be read.
-    ReadFault,
-    /// The output could not be written.
-    WriteFault,
-    /// A file was refused.
-    Refused,
-    /// The search reached its limit.
-    Limit,
-    /// The formula asked for is too large.
-    TooLarge,
-    /// Memory was refused.
-    NoMemory,
-}
-
-/// The number that the program ends with, from 0 to 8 in the order of [`Status`].
-pub fn status_number(status: Status) -> u8
-    ensures { result ≡ number_of status }
-{
-    match status {
-        Status::Done => 0,
-        Status::No => 1,
-        Status::Usage => 2,
-        Status::ReadFault => 3,
-        Status::WriteFault => 4,
-        Status::Refused => 5,
-        Status::Limit => 6,
-        Status::TooLarge => 7,
-        Status::NoMemory => 8,
-    }
+    /// The refutation is rejected: the number of the fault, and its line, if it has one.
+    Rejected(u32, Option<u32>),
+    /// The search reached this limit of conflicts.
+    Limit(u64),
 }
 
 /// Why a file is refused.
@@ -56,24 +32,37 @@ pub enum Refusal {
     Problem(ProblemFault),
     Model(ModelFault),
     Table(TableFault),
-    /// The first refused row of a table whose rows before it went out.
+    /// The first refused row of a table.
     Row(RowFault),
 }
 
-/// Why a command stops before it is done.
+/// Why a formula is too large.
+#[derive(Clone, Copy, Debug, PartialEq, Eq)]
+pub enum Size {
+    /// Coalitions were asked with so many criteria.
+    Wide(u32),
+    /// It has so many literals.
+    Large(u128),
+}
+
+/// Why a command stops before its verdict.
 #[derive(Clone, Copy)]
 pub enum Stop<'a> {
+    /// The command line is no job.
+    Usage(LineFault),
     /// The file of this name could not be read.
     Unread(&'a str),
-    /// The output could not be written.
-    Unwritten,
     /// The file of this name was refused.
     Refused(&'a str, Refusal),
+    /// The formula asked for is too large.
+    TooLarge(Size),
+    /// The output could not be written.
+    Unwritten,
     NoMemory,
 }
 
 impl<'a> Stop<'a> {
-    /// The stop of a file that is refused, or where memory was refused.
+    /// The stop of a file that is refused, or out of memory.
     pub fn refusing(name: &'a str, refusal: Option<Refusal>) -> Stop<'a>
         ensures { result ≡ stop_of name.entry refusal }
     {
@@ -82,16 +71,22 @@ impl<'a> Stop<'a> {
             None => Stop::NoMemory,
         }
     }
+}
 
-    /// How the run ends.
-    pub fn status(&self) -> Status
-        ensures { result ≡ status_of self.now }
-    {
-        match self {
-            Stop::Unread(_) => Status::ReadFault,
-            Stop::Unwritten => Status::WriteFault,
-            Stop::Refused(..) => Status::Refused,
-            Stop::NoMemory => Status::NoMemory,
-        }
+/// The status of a run that ended so.
+pub fn status_of(end: &Result<Verdict, Stop<'_>>) -> Status
+    ensures { result ≡ status_of_report (report_of end.now) }
+{
+    match end {
+        Ok(Verdict::Done) => Status::Done,
+        Ok(Verdict::No) => Status::No,
+        Ok(Verdict::Rejected(..)) => Status::No,
+        Ok(Verdict::Limit(_)) => Status::Limit,
+        Err(Stop::Usage(_)) => Status::Usage,
+        Err(Stop::Unread(_)) => Status::ReadFault,
+        Err(Stop::Refused(..)) => Status::Refused,
+        Err(Stop::TooLarge(_)) => Status::TooLarge,
+        Err(Stop::Unwritten) => Status::WriteFault,
+        Err(Stop::NoMemory) => Status::NoMemory,
     }
 }

@@ -10,7 +10,7 @@ fn a_tie_at_the_threshold_is_accepted(rt: HostRuntime) -> Result<(), Fail> {
         &rt,
         rt.alloc(),
         (PROBLEM, MODEL, "name,Speed\na,3\nb,7\n"),
-        (Status::Done, want),
+        (Status::Done, want, ""),
     )
 }
 
@@ -21,9 +21,14 @@ fn a_header_alone_is_a_table_and_an_empty_file_is_not(rt: HostRuntime) -> Result
         &rt,
         rt.alloc(),
         (PROBLEM, MODEL, "name,Speed\n"),
-        (Status::Done, want),
+        (Status::Done, want, ""),
     )?;
-    ends_with(&rt, rt.alloc(), (PROBLEM, MODEL, ""), (Status::Refused, ""))
+    ends_with(
+        &rt,
+        rt.alloc(),
+        (PROBLEM, MODEL, ""),
+        (Status::Refused, "", "lincs: A.csv: table 2\n"),
+    )
 }
 
 #[test]
@@ -39,13 +44,17 @@ fn no_root_accepts_nothing_and_an_empty_root_everything(rt: HostRuntime) -> Resu
         &rt,
         rt.alloc(),
         (PROBLEM, &none, table),
-        (Status::Done, "name,Speed,category\na,3,Bad\nb,7,Bad\n"),
+        (Status::Done, "name,Speed,category\na,3,Bad\nb,7,Bad\n", ""),
     )?;
     ends_with(
         &rt,
         rt.alloc(),
         (PROBLEM, &all, table),
-        (Status::Done, "name,Speed,category\na,3,Good\nb,7,Good\n"),
+        (
+            Status::Done,
+            "name,Speed,category\na,3,Good\nb,7,Good\n",
+            "",
+        ),
     )
 }
 
@@ -56,7 +65,7 @@ fn rows_before_a_refused_one_go_out(rt: HostRuntime) -> Result<(), Fail> {
         &rt,
         rt.alloc(),
         (PROBLEM, MODEL, "name,Speed\na,3\nb,11\n"),
-        (Status::Refused, want),
+        (Status::Refused, want, "lincs: A.csv: row 2: 2 at 0: 3\n"),
     )
 }
 
@@ -70,7 +79,7 @@ fn cells_are_copied_and_columns_stand_in_the_order_of_the_problem(
         &rt,
         rt.alloc(),
         (PROBLEM, MODEL, table),
-        (Status::Done, want),
+        (Status::Done, want, ""),
     )
 }
 
@@ -99,7 +108,7 @@ ordered_categories:
         &rt,
         rt.alloc(),
         (problem, &model, table),
-        (Status::Done, want),
+        (Status::Done, want, ""),
     )
 }
 
@@ -118,7 +127,7 @@ fn the_greatest_boundary_decides_though_a_lower_one_is_not_reached(
         &rt,
         rt.alloc(),
         (PROBLEM_OF_THREE, &model, "name,Speed\na,0\n"),
-        (Status::Done, want),
+        (Status::Done, want, ""),
     )
 }
 
@@ -135,7 +144,7 @@ fn an_alias_stands_for_the_coalitions_of_another_boundary(rt: HostRuntime) -> Re
         &rt,
         rt.alloc(),
         (PROBLEM_OF_THREE, &model, "name,Speed\na,2\nb,3\nc,7\n"),
-        (Status::Done, want),
+        (Status::Done, want, ""),
     )
 }
 
@@ -173,29 +182,41 @@ sufficient_coalitions:
         &rt,
         rt.alloc(),
         (problem, model, table),
-        (Status::Done, "name,Speed,category\na,3,Bad\nb,7,Good\n"),
+        (Status::Done, "name,Speed,category\na,3,Bad\nb,7,Good\n", ""),
     )
 }
 
 #[test]
-fn two_equal_keys_are_refused(rt: HostRuntime) -> Result<(), Fail> {
-    let problem = "kind: classification-problem
-kind: classification-problem
+fn weights_that_sum_to_exactly_1_are_enough_and_null_accepts_nothing(
+    rt: HostRuntime,
+) -> Result<(), Fail> {
+    let criterion = "    value_type: integer\n    preference_direction: increasing\n";
+    let problem = format!(in rt.alloc();
+        "kind: classification-problem
 format_version: 1
 criteria:
-  - name: Speed
-    value_type: integer
-    preference_direction: increasing
-    min_value: 0
-    max_value: 10
-ordered_categories:
+  - name: A\n{criterion}  - name: B\n{criterion}  - name: C\n{criterion}ordered_categories:
   - name: Bad
   - name: Good
+"
+    )?;
+    let coalitions = "  - kind: thresholds\n    thresholds: [7]
+  - kind: thresholds\n    thresholds: [7]
+sufficient_coalitions:
+  - kind: weights\n    criterion_weights: [0.3, 0.3, 0.4]
 ";
-    ends_with(
-        &rt,
-        rt.alloc(),
-        (problem, MODEL, "name,Speed\na,3\n"),
-        (Status::Refused, ""),
-    )
+    let model = format!(in rt.alloc();
+        "kind: ncs-classification-model
+format_version: 1
+accepted_values:
+  - kind: thresholds\n    thresholds: [7]\n{coalitions}"
+    )?;
+    let table = "name,A,B,C\na,7,7,7\nb,7,7,6\n";
+    let sorted = "name,A,B,C,category\na,7,7,7,Good\nb,7,7,6,Bad\n";
+    let files = (problem.as_str(), model.as_str(), table);
+    ends_with(&rt, rt.alloc(), files, (Status::Done, sorted, ""))?;
+    let null = crate::session::edited(&rt, rt.alloc(), model.as_str(), "[7]", "[null]")?;
+    let sorted = "name,A,B,C,category\na,7,7,7,Bad\nb,7,7,6,Bad\n";
+    let files = (problem.as_str(), null.as_str(), table);
+    ends_with(&rt, rt.alloc(), files, (Status::Done, sorted, ""))
 }

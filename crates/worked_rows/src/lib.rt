@@ -1,9 +1,17 @@
-//! Whole runs over files in memory, from words to the bytes that are written.
+//! Whole runs over files in memory, from the command line to the bytes that are written.
 #![tactic(auto)]
 
+#[cfg(test)]
+mod accuracy;
 #[cfg(test)]
 mod classify;
 #[cfg(test)]
 mod faults;
 #[cfg(test)]
+mod limits;
+#[cfg(test)]
+mod refused;
+#[cfg(test)]
 mod session;
+#[cfg(test)]
+mod usage;

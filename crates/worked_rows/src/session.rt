@@ -45,11 +45,24 @@ sufficient_coalitions:
     upset_roots: [[0]]
 ";
 
-/// The words of the job, which names its files `P.yml`, `M.yml` and `A.csv`.
-pub fn words(alloc: Global) -> Result<Vec<String>, AllocError> {
+/// A table of two rows, and what the model makes of it.
+pub const TABLE: &str = "name,Speed\na,3\nb,7\n";
+
+pub const SORTED: &str = "name,Speed,category\na,3,Bad\nb,7,Good\n";
+
+/// The command line over the files `P.yml`, `M.yml` and `A.csv`.
+pub const CLASSIFY: &str = "classify P.yml M.yml A.csv";
+
+/// What a run ends with: its status, its output and its error line.
+pub type Want<'a> = (Status, &'a str, &'a str);
+
+/// The words of a command line, between single spaces.
+pub fn words(alloc: Global, line: &str) -> Result<Vec<String>, AllocError> {
     let mut words = Vec::new(alloc);
-    for word in ["classify", "P.yml", "M.yml", "A.csv"] {
-        words.push(String::from_str(alloc, word)?)?;
+    for word in line.split(' ') {
+        if !word.is_empty() {
+            words.push(String::from_str(alloc, word)?)?;
+        }
     }
     Ok(words)
 }
@@ -81,29 +94,81 @@ sufficient_coalitions:
     )
 }
 
-/// Runs the job over these files and this output. The error output gets nothing.
-pub fn run_job(
+/// Runs the command line over these files, and looks at its status, its output and its error line.
+pub fn runs(
     rt: &impl Abort,
     alloc: Global,
+    line: &str,
     shelf: &mut MemShelf,
-    out: &mut MemSink,
-) -> Result<Status, Fail> {
+    want: Want<'_>,
+) -> Result<(), Fail> {
+    let mut out = MemSink::new(alloc);
     let mut err = MemSink::new(alloc);
-    let status = run(alloc, &words(alloc)?, shelf, out, &mut err);
-    assert_eq!(rt; err.bytes(), b"".as_slice());
-    Ok(status)
+    let status = run(alloc, &words(alloc, line)?, shelf, &mut out, &mut err);
+    let what = want.2;
+    assert_eq!(rt; err.bytes(), want.2.as_bytes(), "{what}");
+    assert_eq!(rt; out.bytes(), want.1.as_bytes(), "{what}");
+    assert_eq!(rt; status, want.0, "{what}");
+    Ok(())
 }
 
-/// Runs the job over the three files, and looks at its status and its output.
+/// Runs `classify` over the three files.
 pub fn ends_with(
     rt: &impl Abort,
     alloc: Global,
     files: (&str, &str, &str),
-    want: (Status, &str),
+    want: Want<'_>,
 ) -> Result<(), Fail> {
     let mut shelf = shelf(alloc, files.0, files.1, files.2)?;
-    let mut out = MemSink::new(alloc);
-    assert_eq!(rt; run_job(rt, alloc, &mut shelf, &mut out)?, want.0);
-    assert_eq!(rt; out.bytes(), want.1.as_bytes());
-    Ok(())
+    runs(rt, alloc, CLASSIFY, &mut shelf, want)
+}
+
+/// Runs `classify` over three good files, one of which has other bytes. The run has to end with status
+/// 5, no output, and this error line after `lincs: `.
+pub fn refuses(
+    rt: &impl Abort,
+    alloc: Global,
+    file: &str,
+    bytes: &[u8],
+    cause: &str,
+) -> Result<(), Fail> {
+    let mut shelf = shelf(alloc, PROBLEM, MODEL, TABLE)?;
+    shelf.add(file, bytes)?;
+    let line = format!(in alloc; "lincs: {cause}\n")?;
+    runs(
+        rt,
+        alloc,
+        CLASSIFY,
+        &mut shelf,
+        (Status::Refused, "", line.as_str()),
+    )
+}
+
+/// A text with the first `old` in it replaced by `new`. There has to be one.
+pub fn edited(
+    rt: &impl Abort,
+    alloc: Global,
+    text: &str,
+    old: &str,
+    new: &str,
+) -> Result<String, AllocError> {
+    match text.split_once(old) {
+        Some((before, after)) => format!(in alloc; "{before}{new}{after}"),
+        None => {
+            assert!(rt; false, "{old} is not in the text");
+            Ok(String::new(alloc))
+        }
+    }
+}
+
+/// The same, of a file whose text has its first `edit.0` replaced by `edit.1`.
+pub fn refuses_edit(
+    rt: &impl Abort,
+    alloc: Global,
+    file: &str,
+    text: &str,
+    edit: (&str, &str, &str),
+) -> Result<(), Fail> {
+    let text = edited(rt, alloc, text, edit.0, edit.1)?;
+    refuses(rt, alloc, file, text.as_bytes(), edit.2)
 }

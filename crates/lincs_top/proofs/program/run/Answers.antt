@@ -1,25 +1,31 @@
-use Rattle.std.proofs.Common.{◌≡◌, Some, rules, sym, ◌∙◌}
-use Rattle.lincs_top.specs.Command.{texts, command_in, command_of}
-use Rattle.lincs_top.proofs.Stopped.{is_built, misses, course_stops, completes}
+use Rattle.std.proofs.Common.{sym, ◌∙◌}
+use Rattle.lincs_top.specs.Stop.{report_of}
+use Rattle.lincs_top.proofs.Running.{status_tells, completes, no_read_fault, no_write_fault, usage_exactly, done_says_nothing}
 use Rattle.lincs_top.proofs.program.run.Goals as goal
 
-pub returns-in-Err-clause-read_missed : goal.returns-in-Err-clause-read_missed
-returns-in-Err-clause-read_missed g c =
-    let is : command_in (texts c.args.words.now) ≡ Some (command_of c.in-Some.job) = search rules in
-    λ e. misses (texts c.args.words.now) (command_of c.in-Some.job) (g.S.Shelf.state c.args.shelf.now) (g.S.Shelf.state c.obey.new.shelf) (g.O.Sink.state c.args.out.now) (g.O.Sink.state c.obey.new.out)
-    is c.in-Err.stop c.in-Err.ensures (sym c.status.ensures ∙ e)
+pub returns-clause-report : goal.returns-clause-report
+returns-clause-report g c = record {
+  report = report_of c.do_line-end.result;
+  named = c.status_of.ensures;
+  causes = c.do_line-end.ensures.causes;
+  keeps = c.do_line-end.ensures.keeps;
+  line = c.write_line.ensures;
+}
 
-pub returns-in-Err-clause-course : goal.returns-in-Err-clause-course
-returns-in-Err-clause-course g c =
-    let is : command_in (texts c.args.words.now) ≡ Some (command_of c.in-Some.job) = search rules in
-    rw c.status.ensures (course_stops (texts c.args.words.now) (command_of c.in-Some.job) (g.S.Shelf.state c.args.shelf.now) (g.S.Shelf.state c.obey.new.shelf) (g.O.Sink.state c.args.out.now) (g.O.Sink.state c.obey.new.out)
-    is c.in-Err.stop c.in-Err.ensures)
+pub returns-clause-tells : goal.returns-clause-tells
+returns-clause-tells g c = rw c.status_of.ensures (status_tells _ _ _ _ _ _ c.do_line-end.ensures.causes c.do_line-end.ensures.keeps)
 
-pub returns-in-Err-clause-complete : goal.returns-in-Err-clause-complete
-returns-in-Err-clause-complete g c =
-    let is : command_in (texts c.args.words.now) ≡ Some (command_of c.in-Some.job) = search rules in
-    rw c.status.ensures (completes (texts c.args.words.now) (command_of c.in-Some.job) (g.S.Shelf.state c.args.shelf.now) (g.S.Shelf.state c.obey.new.shelf) (g.O.Sink.state c.args.out.now) (g.O.Sink.state c.obey.new.out)
-    is c.in-Err.stop c.in-Err.ensures)
+pub returns-clause-usage : goal.returns-clause-usage
+returns-clause-usage g c = rw c.status_of.ensures (usage_exactly _ _ _ _ _ _ c.do_line-end.ensures.causes)
 
-pub returns-in-Err-clause-built : goal.returns-in-Err-clause-built
-returns-in-Err-clause-built g c = rw c.status.ensures (is_built c.in-Err.stop)
+pub returns-clause-quiet : goal.returns-clause-quiet
+returns-clause-quiet g c = λ done. done_says_nothing _ _ _ c.write_line.ensures (sym c.status_of.ensures ∙ done)
+
+pub returns-clause-complete : goal.returns-clause-complete
+returns-clause-complete g c = completes _ _ _ _ _ _ (returns-clause-tells g c)
+
+pub returns-clause-safe_shelf : goal.returns-clause-safe_shelf
+returns-clause-safe_shelf g c = no_read_fault _ _ _ _ _ _ (returns-clause-tells g c)
+
+pub returns-clause-safe_out : goal.returns-clause-safe_out
+returns-clause-safe_out g c = no_write_fault _ _ _ _ _ _ (returns-clause-tells g c)

@@ -1,0 +1,15 @@
+use Rattle.lincs_top.proofs.Came.{came_none, came_on, came_to_a_stop, came_to_an_end}
+use Rattle.lincs_top.proofs.Ends.{text_can_end}
+use Rattle.lincs_top.proofs.describe.tell_table.Goals as goal
+
+pub returns-in_err-criteria : goal.returns-in_err-criteria
+returns-in_err-criteria g c = came_to_a_stop _ (came_none _ _) c.in_err-criteria.ensures.step c.from_residual.ensures.1
+
+pub returns-in_err-rows : goal.returns-in_err-rows
+returns-in_err-rows g c =
+    came_to_a_stop _ (came_on _ (came_none _ _) c.in_ok-criteria.ensures.step) c.in_err-rows.ensures.step c.from_residual-in_err-rows.ensures.1
+
+pub returns : goal.returns
+returns g c =
+    came_to_an_end (came_on _ (came_on _ (came_none _ _) c.in_ok-criteria.ensures.step) c.in_ok-rows.ensures.step)
+    c.write_description.ensures (text_can_end _ _ _)

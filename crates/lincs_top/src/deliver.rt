@@ -1,0 +1,26 @@
+//! Writes the output of a command.
+ghost use Rattle.std.specs.Prelude.{false, ℕ, List};
+ghost use Rattle.lincs_top.specs.Deliver.{Concludes, MakesText};
+ghost use Rattle.lincs_top.specs.End.{gave};
+
+use crate::stop::{Stop, Verdict};
+use edge_core::{Sink, put_all};
+use std::alloc::AllocError;
+
+/// Writes the whole output of a command, and returns its verdict. Nothing is written if there was no
+/// memory for the text.
+pub fn deliver<'a, O: Sink>(
+    out: &mut O,
+    text: Result<Vec<u8>, AllocError>,
+    verdict: Verdict,
+) -> Result<Verdict, Stop<'a>>
+    ensures { (bytes : List ℕ) → MakesText bytes text → Concludes false (gave verdict) bytes (O.state out.old) (O.state out.new) result }
+{
+    let Ok(text) = text else {
+        return Err(Stop::NoMemory);
+    };
+    match put_all(out, &text) {
+        Ok(()) => Ok(verdict),
+        Err(_) => Err(Stop::Unwritten),
+    }
+}
