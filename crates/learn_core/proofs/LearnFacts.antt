@@ -1,12 +1,12 @@
 -- What a search over the formula of a task says of the task.
-use Rattle.std.proofs.Common.{◌≡◌, ℕ, Bool, List, sym, subst}
+use Rattle.std.proofs.Common.{◌≡◌, Bool, List, sym, subst}
 use Rattle.std.specs.List.{All}
 use Rattle.literals_core.specs.Apart.{AreApart}
 use Rattle.literals_core.specs.Formula.{Cnf}
 use Rattle.literals_core.specs.Values.{Satisfies}
 use Rattle.literals_core.specs.declared.encoding.Encoding.{Encoding}
 use Rattle.encoding_rules.specs.Task.{Task, IsTask}
-use Rattle.encoding_rules.specs.Encodings.{clauses_of, formula_of}
+use Rattle.encoding_rules.specs.Encodings.{formula_of}
 use Rattle.encoding_rules.proofs.ApartFacts.{all_apart}
 use Rattle.search_core.specs.Outcomes.{IsModel}
 use Rattle.search_core.specs.Values.{value_at}

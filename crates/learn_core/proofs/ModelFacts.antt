@@ -1,5 +1,5 @@
 -- A rebuilt model in words of the rule, and that it belongs to its problem.
-use Rattle.std.proofs.Common.{◌≡◌, ℕ, zero, suc, ◌+◌, ◌-◌, ◌*◌, ◌^◌, ◌<◌, ◌≤◌, ℤ, pos, List, [], ◌∷◌, length, map, get_or, Option, None, Some, refl, sym, ap, ◌∙◌, subst, arith}
+use Rattle.std.proofs.Common.{◌≡◌, ℕ, zero, suc, ◌+◌, ◌^◌, ◌<◌, ◌≤◌, ℤ, pos, List, [], ◌∷◌, length, map, get_or, Option, None, Some, refl, sym, ap, ◌∙◌, subst, arith}
 use Rattle.std.specs.Prelude.{replicate, slice_index, slice_index_or}
 use Rattle.std.specs.List.{All, AllZip, Contains}
 use Rattle.std.specs.List.Sorted.{IsStrictlyIncreasing}
@@ -12,7 +12,7 @@ use Rattle.sorting_rule.specs.Model as rule
 use Rattle.sorting_rule.specs.Examples.{Example}
 use Rattle.sorting_rule.specs.Rebuilt.{grade_on, no_profile, AreMinimal, Learns}
 use Rattle.problem_core.specs.Grade.{direction_of, IsGrade}
-use Rattle.problem_core.specs.Problem.{ProblemValue, IsProblem}
+use Rattle.problem_core.specs.Problem.{ProblemValue}
 use Rattle.problem_core.specs.declared.criterion.Criterion.{Criterion}
 use Rattle.problem_core.specs.declared.criterion.Scale.{Scale}
 use Rattle.table_core.specs.Examples.{no_example, BelongTo}
@@ -23,7 +23,7 @@ use Rattle.ranks_core.specs.Ranks.{task_of}
 use Rattle.model_core.specs.declared.model.Coalitions.{Coalitions}
 use Rattle.model_core.specs.declared.model.Coalitions.TheVariants.{Roots}
 use Rattle.model_core.specs.declared.model.Profile.{Profile}
-use Rattle.model_core.specs.Model.{ModelValue, profile_of as rule_profile_of, profiles_of, sufficient_by, boundaries_of, rule_of, IsThreshold, AreCoalitions, Belongs}
+use Rattle.model_core.specs.Model.{ModelValue, profiles_of, sufficient_by, boundaries_of, rule_of, IsThreshold, AreCoalitions, Belongs}
 
 -- lists of the same length with the same items
 pub same_items : {A : Type 0} (xs ys : List A) → length xs ≡ length ys → ((i : ℕ) (d : A) → i < length xs → get_or xs i d ≡ get_or ys i d) → xs ≡ ys

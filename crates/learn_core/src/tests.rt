@@ -54,14 +54,15 @@ fn table_of(alloc: Global, problem: &Problem, text: &str) -> Result<Table, Table
     Table::open(alloc, problem, bytes)
 }
 
-/// What learning from the table of a text ends with, with one lemma.
-fn learned(alloc: Global, encoding: Encoding, text: &str) -> Option<Answer> {
+/// What learning from the table of a text ends with, in an encoding. With one lemma some tables come to the limit.
+fn learned(alloc: Global, encoding: Encoding, text: &str, one: bool) -> Option<Answer> {
     let problem = two(alloc)?;
     let table = table_of(alloc, &problem, text).ok()?;
     let Ok(own) = examples(alloc, &problem, table) else {
         return None;
     };
-    learn(alloc, &problem, &own, encoding, 1).ok()
+    let most = if one { 1 } else { 1_000 };
+    learn(alloc, &problem, &own, encoding, most).ok()
 }
 
 #[test]
@@ -70,27 +71,27 @@ fn each_answer_comes(rt: HostRuntime) -> Result<(), Fail> {
     let apart = "name,U,V,category\na,3,5,Bad\nb,7,5,Good\n";
     assert!(rt;
         matches!(
-            learned(alloc, Encoding::Separation, apart),
+            learned(alloc, Encoding::Separation, apart, true),
             Some(Answer::Found(_))
         )
     );
     assert!(rt;
         matches!(
-            learned(alloc, Encoding::Coalitions, apart),
+            learned(alloc, Encoding::Coalitions, apart, true),
             Some(Answer::Found(_))
         )
     );
     let same = "name,U,V,category\na,5,5,Bad\nb,5,5,Good\n";
     assert!(rt;
         matches!(
-            learned(alloc, Encoding::Separation, same),
+            learned(alloc, Encoding::Separation, same, false),
             Some(Answer::Refuted(_))
         )
     );
     let worse = "name,U,V,category\ng,1,0,Good\nb,1,1,Bad\n";
     assert!(rt;
         matches!(
-            learned(alloc, Encoding::Separation, worse),
+            learned(alloc, Encoding::Separation, worse, true),
             Some(Answer::Limit(_))
         )
     );
