@@ -6,15 +6,18 @@ use Rattle.std.proofs.KnownBytes.{Appends-nil}
 use Rattle.std.proofs.lemmas.Grind.{common_steps}
 use Rattle.std.proofs.lemmas.List.Elements.{Contains-append_right}
 use Rattle.std.proofs.lemmas.Result.{err_from_is_err_and}
+use Rattle.literals_core.specs.declared.encoding.Encoding.{Encoding}
+use Rattle.encoding_rules.specs.Task.{Task}
 use Rattle.edge_core.specs.Outside.{Files, ShelfState, SinkState, KeepsHeld}
 use Rattle.lincs_top.specs.declared.stop.Verdict.{Verdict}
 use Rattle.lincs_top.specs.declared.stop.Size.{Size}
 use Rattle.lincs_top.specs.declared.stop.Stop.{Stop}
 use Rattle.lincs_top.specs.declared.stop.Stop.TheVariants.{Usage, Unread, Unwritten, Refused, TooLarge, NoMemory}
 use Rattle.line_core.specs.Command.{Command}
-use Rattle.lincs_top.specs.Command.{names_of, streams}
-use Rattle.lincs_top.specs.End.{End, unread, refused, over, Outcome, silent}
-use Rattle.lincs_top.specs.Course.{World, readable, unreadable_at, is_at, given_in, Goes, Reads, Writes, course, Ends}
+use Rattle.lincs_top.specs.Command.{names_of, streams, makes_formula}
+use Rattle.lincs_top.specs.Size.{IsOver, StopsOver, TakesSize}
+use Rattle.lincs_top.specs.End.{End, unread, refused, Outcome, silent}
+use Rattle.lincs_top.specs.Course.{World, readable, unreadable_at, is_at, given_in, Goes, Reads, Sizes, Writes, course, Ends}
 use Rattle.lincs_top.specs.FileGives.{FileStep, given}
 use Rattle.lincs_top.specs.Deliver.{Concludes, ConcludesAs}
 use Rattle.lincs_top.specs.FileStep.{StopsAs, OpensOne, TakesStep}
@@ -201,6 +204,36 @@ module _ {command : Command} {old new : ShelfState} {count : ℕ} {left : List (
     causes = inl refl;
   }
 
-  -- the formula asked for is too large, and nothing was written
-  pub came_too_large : {size : Size} {out : SinkState} → Came command old new count left (Writes (over size) []) → CanEnd command (over size) → Obeys command old new out out (Err (TooLarge size))
-  came_too_large {size} {out} c can = came_to_an_end c (record { later = omega arith; gives = (refl, Appends-nil out.written) }) can
+  -- the formula is small enough: the command came on
+  pub came_sized : {A : Type 0} {how : Encoding} {task : Task} {next : ℕ → World → Outcome → Type 0} {made : A} → Came command old new count left (Sizes how task next) → TakesSize how task (Ok made)
+      → Came command old new count left next
+  came_sized c t = record {
+    passed = c.passed;
+    names = c.names;
+    counted = c.counted;
+    reached = λ files told u from e is. c.reached files told u from e (record { goes = inl (t.gives, is) });
+    held = c.held;
+    later = c.later;
+    asked = c.asked;
+  }
+
+  -- it is too large, and nothing was written
+  too_large : {how : Encoding} {task : Task} {next : ℕ → World → Outcome → Type 0} (out : SinkState) (size : Size) → Came command old new count left (Sizes how task next) → IsOver how task size → makes_formula command ≡ true
+      → Obeys command old new out out (Err (TooLarge size))
+  too_large out size c is can = came_to_some_end {text = []} c (record { later = omega arith; gives = (refl, Appends-nil out.written) }) (λ world. record { goes = inr (size, is, refl) }) can
+
+  size_stopped : {how : Encoding} {task : Task} {next : ℕ → World → Outcome → Type 0} (out : SinkState) (stop : Stop) → Came command old new count left (Sizes how task next) → StopsOver how task stop → makes_formula command ≡ true
+      → Obeys command old new out out (Err stop)
+  size_stopped out (TooLarge size) c is can = too_large out size c is can
+  size_stopped out NoMemory c is can = came_short c
+  size_stopped out (Unread name) c is can = absurd is
+  size_stopped out (Refused name why) c is can = absurd is
+  size_stopped out Unwritten c is can = absurd is
+  size_stopped out (Usage fault) c is can = absurd is
+
+  pub came_to_a_size : {A : Type 0} {how : Encoding} {task : Task} {next : ℕ → World → Outcome → Type 0} {out : SinkState} {stop : Stop} (result : Result Verdict Stop) → Came command old new count left (Sizes how task next)
+      → TakesSize {A = A} how task (Err stop) → IsErrAnd result (λ s. s ≡ stop) → makes_formula command ≡ true → Obeys command old new out out result
+  came_to_a_size {out} {stop} result c t is can =
+      let p = err_from_is_err_and result is in
+      let e : result ≡ Err stop = p.1 ∙ ap Err p.2 in
+      subst (Obeys command old new out out) (sym e) (size_stopped out stop c t.gives can)

@@ -1,5 +1,5 @@
 -- The ends of commands.
-use Rattle.std.proofs.Common.{◌≡◌, List, ℕ, Option, Some, None, Result, Ok, Err, refl, rules}
+use Rattle.std.proofs.Common.{List, ℕ, Option, Some, None, Result, Ok, Err, refl, rules}
 use Rattle.table_core.specs.declared.fault.RowFault.{RowFault}
 use Rattle.line_core.specs.Command.{classifying, describing_table}
 use Rattle.lincs_top.specs.Obeys.{CanEnd}

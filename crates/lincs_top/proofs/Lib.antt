@@ -3,3 +3,4 @@ pub mod Ends
 pub mod Running
 mod Then
 mod SayLemmas
+mod Judging

@@ -2,7 +2,7 @@
 use Rattle.std.proofs.Common.{◌≡◌, ◌⊎◌, inl, inr, ℕ, List, Result, Ok, Err, refl, Some, ◌∙◌, ap}
 use denote.Ref.{Bor}
 use Rattle.lists_core.specs.Answers.{◌>>=◌}
-use Rattle.edge_core.specs.Outside.{Files, ShelfState}
+use Rattle.edge_core.specs.Outside.{ShelfState}
 use Rattle.problem_core.specs.Problem.{ProblemValue}
 use Rattle.table_core.specs.Examples.{examples_left}
 use Rattle.table_core.specs.Table.{TableState}

@@ -21,3 +21,10 @@ names_of (rehearsing criteria categories rows seed) = []
 abbrev pub streams : Command → Bool
 streams (classifying problem model table) = true
 streams command = false
+
+-- it makes a formula, which may be too large
+abbrev pub makes_formula : Command → Bool
+makes_formula (learning problem table how most) = true
+makes_formula (encoding problem table how) = true
+makes_formula (checking problem table refutation) = true
+makes_formula command = false

@@ -1,5 +1,12 @@
 -- How a command goes over files: its course.
-use Rattle.std.specs.Prelude.{◌≡◌, ◌+◌, ℕ, Bool, false, List, Option, None, Some, Result, Ok, Err, ◌==◌, if◌then◌else◌}
+use Rattle.std.specs.Prelude.{◌≡◌, ◌⊎◌, ◌+◌, ℕ, Bool, false, List, Option, None, Some, Result, Ok, Err, ◌==◌, if◌then◌else◌}
+use Rattle.literals_core.specs.declared.encoding.Encoding.{Encoding}
+use Rattle.chain_core.specs.Text.{dimacs_text}
+use Rattle.chain_core.specs.declared.log.Lemma.{Lemma}
+use Rattle.sorting_rule.specs.Examples.{HasNoModel}
+use Rattle.encoding_rules.specs.Task.{Task}
+use Rattle.encoding_rules.specs.Encodings.{formula_of, HasFormula}
+use Rattle.ranks_core.specs.Ranks.{task_of}
 use Rattle.edge_core.specs.Outside.{Files}
 use Rattle.table_core.specs.Rows.{rows_left}
 use Rattle.model_core.specs.Model.{rule_of}
@@ -7,10 +14,14 @@ use Rattle.report_core.specs.Classified.{classified_text}
 use Rattle.report_core.specs.Described.{problem_description, table_description}
 use Rattle.report_core.specs.DescribedModel.{model_description}
 use Rattle.lincs_top.specs.Output.{accuracy_text, end_of_rows, end_of_text, text_or_none}
-use Rattle.line_core.specs.Command.{Command, classifying, rating, describing_problem, describing_model, describing_table}
+use Rattle.line_core.specs.Command.{Command, classifying, rating, encoding, checking, describing_problem, describing_model, describing_table}
+use Rattle.lincs_top.specs.declared.stop.Size.{Size}
+use Rattle.lincs_top.specs.declared.stop.Verdict.{Verdict}
 use Rattle.lincs_top.specs.declared.stop.Verdict.TheVariants.{Done}
-use Rattle.lincs_top.specs.End.{End, gave, unread, Outcome, silent}
-use Rattle.lincs_top.specs.FileGives.{FileStep, given, problem_in, model_in, table_in, examples_in}
+use Rattle.lincs_top.specs.End.{End, gave, unread, over, Outcome, silent}
+use Rattle.lincs_top.specs.FileGives.{FileStep, given, problem_in, model_in, table_in, examples_in, log_in}
+use Rattle.lincs_top.specs.Judged.{Judged, judged_text}
+use Rattle.lincs_top.specs.Size.{IsOver}
 
 -- what a course meets: the files, and the place among the command's files of the one that can't be read, if
 -- there is one
@@ -46,6 +57,19 @@ pub record Reads {A : Type 0} (step : FileStep A) (name : List ℕ) (next : A �
 pub record Writes (end : End) (text : List ℕ) (opened : ℕ) (world : World) (outcome : Outcome) : Type 0 where
   pub is : outcome ≡ record { end = end; output = text; opened = opened }
 
+-- the formula of a task in an encoding is small enough, and the course goes on; or it is too large, and the course ends
+-- there with no output
+pub record Sizes (how : Encoding) (task : Task) (next : ℕ → World → Outcome → Type 0) (opened : ℕ) (world : World) (outcome : Outcome) : Type 0 where
+  pub goes : (HasFormula how task × next opened world outcome) ⊎ ((size : Size) × IsOver how task size × (outcome ≡ silent opened (over size)))
+
+-- a log is judged over the formula of a task: the verdict is Done exactly if it is a refutation, and then no model
+-- restores the examples
+pub record Judges (how : Encoding) (task : Task) (log : List Lemma) (opened : ℕ) (world : World) (outcome : Outcome) : Type 0 where
+  pub verdict : Verdict
+  pub judged : Judged (formula_of how task) log verdict
+  pub means : verdict ≡ Done → HasNoModel task.directions task.categories task.examples
+  pub is : outcome ≡ record { end = gave verdict; output = judged_text verdict; opened = opened }
+
 -- a command that is not built has no course
 abbrev pub NotBuilt : ℕ → World → Outcome → Type 0
 NotBuilt opened world outcome = ⊥
@@ -62,6 +86,17 @@ course (rating problem_name model_name table_name) =
     Reads (model_in problem) model_name (λ model.
     Reads (examples_in problem) table_name (λ examples.
     Writes (gave Done) (accuracy_text (rule_of problem model) examples))))
+course (encoding problem_name table_name how) =
+    Reads problem_in problem_name (λ problem.
+    Reads (examples_in problem) table_name (λ examples.
+    Sizes how (task_of problem examples) (
+    Writes (gave Done) (dimacs_text (formula_of how (task_of problem examples))))))
+course (checking problem_name table_name refutation_name) =
+    Reads problem_in problem_name (λ problem.
+    Reads (examples_in problem) table_name (λ examples.
+    Reads log_in refutation_name (λ read.
+    Sizes read.0 (task_of problem examples) (
+    Judges read.0 (task_of problem examples) read.1))))
 course (describing_problem problem_name) =
     Reads problem_in problem_name (λ problem.
     Writes (gave Done) (problem_description problem))

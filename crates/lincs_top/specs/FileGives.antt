@@ -2,6 +2,9 @@
 use Rattle.std.specs.Prelude.{nat_lt, ℕ, List, Result, Ok, Err, length, if◌then◌else◌}
 use Rattle.edge_core.specs.Outside.{Files, bytes_of}
 use Rattle.lists_core.specs.Answers.{◌>>=◌}
+use Rattle.literals_core.specs.declared.encoding.Encoding.{Encoding}
+use Rattle.chain_core.specs.Reading.{log_of}
+use Rattle.chain_core.specs.declared.log.Lemma.{Lemma}
 use Rattle.yaml_core.specs.Read.{reading}
 use Rattle.yaml_core.specs.declared.node.Node.{Node}
 use Rattle.problem_core.specs.Problem.{ProblemValue}
@@ -46,6 +49,10 @@ most_bytes = 67108864
 abbrev pub examples_in : ProblemValue → FileStep (List Example)
 examples_in problem name bytes =
     table_in problem name bytes >>= λ table. refusing name refusal.Row (examples_left problem table)
+
+-- a log, with the encoding that it names
+abbrev pub log_in : FileStep (Encoding × List Lemma)
+log_in name bytes = refusing name refusal.Log (log_of bytes)
 
 -- the bytes of a file, unless it is too long
 abbrev pub bytes_in : Files → List ℕ → Result (List ℕ) End

@@ -3,9 +3,11 @@ pub mod Command
 pub mod End
 pub mod Output
 pub mod FileGives
+pub mod Size
+pub mod Deliver
+pub mod Judged
 pub mod Course
 pub mod FileStep
-pub mod Deliver
 pub mod Refusal
 pub mod Report
 pub mod FaultNumbers

@@ -3,6 +3,8 @@ use Rattle.std.specs.Prelude.{◌≡◌, ◌≤◌, ℕ, List, [], ◌∷◌, �
 use Rattle.std.specs.List.{concat}
 use Rattle.std.specs.Io.KnownBytes.{Appends}
 use Rattle.edge_core.specs.Outside.{SinkState, Rose}
+use Rattle.chain_core.specs.declared.fault.LogFault.{LogFault}
+use Rattle.chain_core.specs.declared.fault.LogFault.TheVariants as log
 use Rattle.line_core.specs.declared.fault.LineFault.{LineFault}
 use Rattle.table_core.specs.declared.fault.RowFault.{RowFault}
 use Rattle.table_core.specs.declared.fault.RowFault.TheVariants as row
@@ -38,6 +40,11 @@ row_text (row.Grade number criterion fault) =
     concat (codes "row " ∷ decimal number ∷ codes ": 2 at " ∷ decimal criterion ∷ codes ": " ∷ decimal (grade_number fault) ∷ codes "\n" ∷ [])
 row_text (row.Category number) = concat (codes "row " ∷ decimal number ∷ codes ": 3\n" ∷ [])
 
+abbrev pub log_text : LogFault → List ℕ
+log_text log.NoMemory = codes "log \n"
+log_text log.Header = codes "log 1\n"
+log_text (log.Shape line) = concat (codes "log 2 at line " ∷ decimal line ∷ codes "\n" ∷ [])
+
 -- what follows the name of a refused file
 abbrev pub refusal_text : Refusal → List ℕ
 refusal_text refusal.TooLong = codes "too long\n"
@@ -46,6 +53,7 @@ refusal_text (refusal.Problem fault) = of_kind (codes "problem ") (problem_numbe
 refusal_text (refusal.Model fault) = of_kind (codes "model ") (model_number fault)
 refusal_text (refusal.Table fault) = of_kind (codes "table ") (table_number fault)
 refusal_text (refusal.Row fault) = row_text fault
+refusal_text (refusal.Log fault) = log_text fault
 
 abbrev pub usage_text : ℕ × ℕ → List ℕ
 usage_text number =

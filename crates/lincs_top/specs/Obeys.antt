@@ -1,16 +1,18 @@
 -- What a command's function does, measured by the command's course.
 use Rattle.std.specs.Prelude.{◌≡◌, ◌⊎◌, ◌≤◌, ◌++◌, ℕ, true, List, [], ◌∷◌, Option, Some, take, Result, Contains, All, IsTrue, ⊤}
 use Rattle.std.specs.Io.KnownBytes.{Appends}
+use Rattle.chain_core.specs.declared.fault.CheckFault.{CheckFault}
 use Rattle.edge_core.specs.Outside.{Files, ShelfState, SinkState, KeepsHeld, Rose, AppendsPart}
 use Rattle.lincs_top.specs.declared.stop.Verdict.{Verdict}
 use Rattle.lincs_top.specs.declared.stop.Verdict.TheVariants.{Done}
 use Rattle.lincs_top.specs.declared.stop.Stop.{Stop}
-use Rattle.line_core.specs.Command.{Command, classifying, rating, describing_problem, describing_model, describing_table}
-use Rattle.lincs_top.specs.Command.{names_of, streams}
+use Rattle.line_core.specs.Command.{Command, classifying, rating, encoding, checking, describing_problem, describing_model, describing_table}
+use Rattle.lincs_top.specs.Command.{names_of, streams, makes_formula}
 use Rattle.lincs_top.specs.Course.{World, Ends, readable, unreadable_at}
 use Rattle.report_core.specs.Prefix.{AppendsPrefix}
 use Rattle.lincs_top.specs.End.{End, gave, unread, refused, over, Outcome}
 use Rattle.lincs_top.specs.FileStep.{HasCauseIn}
+use Rattle.lincs_top.specs.Judged.{rejected}
 use Rattle.lincs_top.specs.Report.{Report, at_end, usage, unwritten, no_memory}
 use Rattle.lincs_top.specs.Stop.{report_of}
 
@@ -22,6 +24,8 @@ MayOpen shelf command = All (λ name. IsTrue (shelf.may_open name)) (names_of co
 abbrev pub CanGive : Command → Verdict → Type 0
 CanGive (classifying problem model table) verdict = verdict ≡ Done
 CanGive (rating problem model table) verdict = verdict ≡ Done
+CanGive (encoding problem table how) verdict = verdict ≡ Done
+CanGive (checking problem table refutation) verdict = (verdict ≡ Done) ⊎ ((fault : CheckFault) × (verdict ≡ rejected fault))
 CanGive (describing_problem problem) verdict = verdict ≡ Done
 CanGive (describing_model problem model) verdict = verdict ≡ Done
 CanGive (describing_table problem table) verdict = verdict ≡ Done
@@ -32,7 +36,7 @@ abbrev pub CanEnd : Command → End → Type 0
 CanEnd command (gave verdict) = CanGive command verdict
 CanEnd command (unread name) = Contains (names_of command) name
 CanEnd command (refused name refusal) = Contains (names_of command) name
-CanEnd command (over size) = ⊥
+CanEnd command (over size) = makes_formula command ≡ true
 
 -- the shelf tells that it holds these files; if no file is named, it need tell none
 abbrev pub TellsOf : List (List ℕ) → Option Files → Files → Type 0

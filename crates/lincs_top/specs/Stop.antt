@@ -2,7 +2,10 @@
 use denote.Ref.{Bor}
 use Rattle.std.specs.Prelude.{ℕ, List, Option, None, Some, Result, Ok, Err}
 use Rattle.lincs_top.specs.declared.stop.Verdict.{Verdict}
+use Rattle.ranks_core.specs.declared.fault.EncodeFault.{EncodeFault}
+use Rattle.ranks_core.specs.declared.fault.EncodeFault.TheVariants as encode
 use Rattle.lincs_top.specs.declared.stop.Refusal.{Refusal}
+use Rattle.lincs_top.specs.declared.stop.Size.TheVariants.{Wide, Large}
 use Rattle.lincs_top.specs.declared.stop.Stop.{Stop}
 use Rattle.lincs_top.specs.declared.stop.Stop.TheVariants.{Usage, Unread, Unwritten, Refused, TooLarge, NoMemory}
 use Rattle.lincs_top.specs.End.{gave, unread, refused, over}
@@ -12,6 +15,12 @@ use Rattle.lincs_top.specs.Report.{Report, at_end, usage, unwritten, no_memory}
 abbrev pub stop_of : Bor (List ℕ) → Option Refusal → Stop
 stop_of name (Some refusal) = Refused name refusal
 stop_of name None = NoMemory
+
+-- the stop of a formula that is too large, for so many criteria, or out of memory
+abbrev pub size_stop : ℕ → EncodeFault → Stop
+size_stop criteria encode.Wide = TooLarge (Wide criteria)
+size_stop criteria (encode.TooLarge literals) = TooLarge (Large literals)
+size_stop criteria encode.NoMemory = NoMemory
 
 abbrev pub report_of : Result Verdict Stop → Report
 report_of (Ok verdict) = at_end (gave verdict)

@@ -7,6 +7,20 @@ use crate::stop::{Stop, Verdict};
 use edge_core::{Sink, put_all};
 use std::alloc::AllocError;
 
+/// Writes the whole output of a command, and returns its verdict.
+pub fn write_out<'a, O: Sink>(
+    out: &mut O,
+    text: &[u8],
+    verdict: Verdict,
+) -> Result<Verdict, Stop<'a>>
+    ensures { Concludes false (gave verdict) text.now (O.state out.old) (O.state out.new) result }
+{
+    match put_all(out, text) {
+        Ok(()) => Ok(verdict),
+        Err(_) => Err(Stop::Unwritten),
+    }
+}
+
 /// Writes the whole output of a command, and returns its verdict. Nothing is written if there was no
 /// memory for the text.
 pub fn deliver<'a, O: Sink>(
@@ -19,8 +33,5 @@ pub fn deliver<'a, O: Sink>(
     let Ok(text) = text else {
         return Err(Stop::NoMemory);
     };
-    match put_all(out, &text) {
-        Ok(()) => Ok(verdict),
-        Err(_) => Err(Stop::Unwritten),
-    }
+    write_out(out, &text, verdict)
 }

@@ -3,11 +3,12 @@ ghost use Rattle.std.specs.Prelude.{◌≡◌, IsTrue, IfOk};
 ghost use Rattle.model_core.specs.Model.{Belongs};
 ghost use Rattle.table_core.specs.Examples.{BelongTo};
 ghost use Rattle.table_core.specs.Table.{IsTableOf};
-ghost use Rattle.lincs_top.specs.FileGives.{tree_in, problem_in, model_in, table_in, examples_in};
-ghost use Rattle.lincs_top.specs.Refusal.{yaml_refusal, problem_refusal, model_refusal, table_refusal, row_refusal};
+ghost use Rattle.lincs_top.specs.FileGives.{tree_in, problem_in, model_in, table_in, examples_in, log_in};
+ghost use Rattle.lincs_top.specs.Refusal.{yaml_refusal, problem_refusal, model_refusal, table_refusal, row_refusal, log_refusal};
 ghost use Rattle.lincs_top.specs.FileStep.{TakesBytes, TakesStep};
 
 use crate::stop::{Refusal, Stop};
+use chain_core::{Encoding, Log, LogFault, read_log};
 use edge_core::{LoadFault, Shelf, load};
 use model_core::{Model, ModelFault, read_model};
 use problem_core::{Problem, ProblemFault, read_problem};
@@ -58,6 +59,15 @@ fn row_refusal(fault: RowFault) -> Option<Refusal>
     match fault {
         RowFault::NoMemory => None,
         _ => Some(Refusal::Row(fault)),
+    }
+}
+
+fn log_refusal(fault: LogFault) -> Option<Refusal>
+    ensures { result ≡ log_refusal fault }
+{
+    match fault {
+        LogFault::NoMemory => None,
+        _ => Some(Refusal::Log(fault)),
     }
 }
 
@@ -153,5 +163,21 @@ pub fn examples_of_file<'a, S: Shelf>(
     match examples(alloc, problem, table) {
         Ok(examples) => Ok(examples),
         Err(fault) => Err(Stop::refusing(name, row_refusal(fault))),
+    }
+}
+
+/// The log of a refutation's file, and the encoding that it names.
+pub fn refutation_of_file<'a, S: Shelf>(
+    alloc: Global,
+    shelf: &mut S,
+    name: &'a str,
+) -> Result<(Encoding, Log), Stop<'a>>
+    requires { IsTrue ((S.state shelf.old).may_open name.now) }
+    ensures step { TakesStep (S.state shelf.old) (S.state shelf.new) log_in name.now result }
+{
+    let bytes = read_file(alloc, shelf, name)?;
+    match read_log(alloc, &bytes) {
+        Ok(read) => Ok(read),
+        Err(fault) => Err(Stop::refusing(name, log_refusal(fault))),
     }
 }

@@ -2,11 +2,14 @@
 #![tactic(auto)]
 
 mod accuracy;
+mod check;
 mod classify;
 mod deliver;
 mod describe;
+mod encode;
 mod fault_numbers;
 mod file_steps;
+mod formulas;
 mod line;
 mod process;
 mod program;

@@ -2,7 +2,7 @@
 ghost use Rattle.std.specs.Prelude.{◌≡◌, [], Err};
 ghost use Rattle.std.specs.List.{flat_map};
 ghost use Rattle.edge_core.specs.Outside.{Sends};
-ghost use Rattle.lincs_top.specs.Line.{Says, part_text, about, numbered, refusal_text, row_text, usage_line, rejected_line, size_line, line_of_report};
+ghost use Rattle.lincs_top.specs.Line.{Says, part_text, about, numbered, refusal_text, row_text, log_text, usage_line, rejected_line, size_line, line_of_report};
 ghost use Rattle.lincs_top.specs.End.{gave};
 ghost use Rattle.lincs_top.specs.Report.{at_end};
 ghost use Rattle.lincs_top.specs.Stop.{report_of};
@@ -11,6 +11,7 @@ use crate::fault_numbers::{
     FaultNumber, grade_number, line_number, model_number, problem_number, table_number, yaml_number,
 };
 use crate::stop::{Refusal, Size, Stop, Verdict};
+use chain_core::LogFault;
 use edge_core::{Failed, Sink, put_all};
 use itoa::Buffer;
 use line_core::LineFault;
@@ -118,6 +119,25 @@ fn say_row<E: Sink>(err: &mut E, name: &str, fault: RowFault) -> Result<(), Fail
     }
 }
 
+// Says why a text is no log.
+fn say_log<E: Sink>(err: &mut E, name: &str, fault: LogFault) -> Result<(), Failed>
+    ensures { Sends (E.state err.old) (E.state err.new) (about name.now (log_text fault)) result }
+{
+    match fault {
+        LogFault::NoMemory => say_about(err, name, &[Part::Text("log \n")]),
+        LogFault::Header => say_about(err, name, &[Part::Text("log 1\n")]),
+        LogFault::Shape(line) => say_about(
+            err,
+            name,
+            &[
+                Part::Text("log 2 at line "),
+                Part::Number(line),
+                Part::Text("\n"),
+            ],
+        ),
+    }
+}
+
 // Says why a file is refused.
 fn say_refusal<E: Sink>(err: &mut E, name: &str, refusal: Refusal) -> Result<(), Failed>
     ensures { Sends (E.state err.old) (E.state err.new) (about name.now (refusal_text refusal)) result }
@@ -129,6 +149,7 @@ fn say_refusal<E: Sink>(err: &mut E, name: &str, refusal: Refusal) -> Result<(),
         Refusal::Model(fault) => say_numbered(err, name, "model ", model_number(fault)),
         Refusal::Table(fault) => say_numbered(err, name, "table ", table_number(fault)),
         Refusal::Row(fault) => say_row(err, name, fault),
+        Refusal::Log(fault) => say_log(err, name, fault),
     }
 }
 

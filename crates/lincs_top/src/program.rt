@@ -8,8 +8,10 @@ ghost use Rattle.lincs_top.specs.Obeys.{MayOpen, Obeys};
 ghost use Rattle.lincs_top.specs.Run.{MayOpenIn, DoesLine, Reports, StatusTells, Completes};
 
 use crate::accuracy::rate;
+use crate::check::check_refutation;
 use crate::classify::classify;
 use crate::describe::{tell_model, tell_problem, tell_table};
+use crate::encode::write_formula;
 use crate::line::write_line;
 use crate::status::Status;
 use crate::stop::{Stop, Verdict, status_of};
@@ -39,6 +41,16 @@ fn obey<'a, S: Shelf, O: Sink>(
             model,
             table,
         } => rate(alloc, problem, model, table, shelf, out),
+        Job::Encode {
+            problem,
+            table,
+            encoding,
+        } => write_formula(alloc, problem, table, encoding, shelf, out),
+        Job::CheckRefutation {
+            problem,
+            table,
+            refutation,
+        } => check_refutation(alloc, problem, table, refutation, shelf, out),
         Job::DescribeProblem { problem } => tell_problem(alloc, problem, shelf, out),
         Job::DescribeModel { problem, model } => tell_model(alloc, problem, model, shelf, out),
         Job::DescribeTable { problem, table } => tell_table(alloc, problem, table, shelf, out),

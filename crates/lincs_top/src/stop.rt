@@ -4,6 +4,7 @@ ghost use Rattle.lincs_top.specs.Stop.{stop_of, report_of};
 ghost use Rattle.lincs_top.specs.Report.{status_of_report};
 
 use crate::status::Status;
+use chain_core::LogFault;
 use line_core::LineFault;
 use model_core::ModelFault;
 use problem_core::ProblemFault;
@@ -34,6 +35,7 @@ pub enum Refusal {
     Table(TableFault),
     /// The first refused row of a table.
     Row(RowFault),
+    Log(LogFault),
 }
 
 /// Why a formula is too large.

@@ -6,7 +6,11 @@ mod accuracy;
 #[cfg(test)]
 mod classify;
 #[cfg(test)]
+mod describe;
+#[cfg(test)]
 mod faults;
+#[cfg(test)]
+mod formulas;
 #[cfg(test)]
 mod limits;
 #[cfg(test)]

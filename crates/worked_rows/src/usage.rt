@@ -8,6 +8,8 @@ fn a_line_that_is_no_job_opens_no_file_and_names_its_word(rt: HostRuntime) -> Re
     for (line, cause) in [
         ("", "lincs: usage 1 at word 1\n"),
         ("sort P.yml", "lincs: usage 2 at word 1\n"),
+        ("describe P.yml", "lincs: usage 2 at word 2\n"),
+        ("rehearse 1 2 0 5", "lincs: usage 2 at word 1\n"),
         ("classify P.yml M.yml", "lincs: usage 3 at word 4\n"),
         (
             "classify P.yml M.yml A.csv B.csv",
