@@ -1,5 +1,5 @@
 -- The numeral of a text by its parts.
-use Rattle.std.proofs.Common.{◌≡◌, ◌≢◌, ℕ, ◌+◌, ◌*◌, ◌^◌, List, [], ◌∷◌, length, take, true, false, not, Some, None, Err, one-add, refl, inl, inr, arith}
+use Rattle.std.proofs.Common.{◌≡◌, ◌≢◌, ap, ◌∙◌, Bool, if◌then◌else◌, ℕ, ◌+◌, ◌*◌, ◌^◌, List, [], ◌∷◌, length, take, true, false, not, Some, None, Err, one-add, refl, inl, inr, arith}
 use Rattle.std.specs.Prelude.{option_map, nat_lt}
 use Rattle.std.specs.Char.{is_ascii_digit}
 use Rattle.std.specs.List.{list_all, position_or_len}
@@ -74,3 +74,23 @@ mantissa-start = record { head = 0; same = refl; known = λ _. (refl, omega arit
 pub fixed-quotient : (n : Numeral) → fixed_of_numeral n ≡ fixed_quotient n.negative (mantissa_of n * 10 ^ raised_by n) (10 ^ lowered_by n)
 unfolding fixed_of_numeral
 fixed-quotient n = refl
+
+-- without an exponent the point stays where it is
+pub no_exponent : (n : Numeral) → n.exponent ≡ [] → fixed_of_numeral n ≡ fixed_quotient n.negative (mantissa_of n * 10 ^ 18) (10 ^ length n.fraction)
+unfolding fixed_of_numeral
+no_exponent n none =
+    let raised : raised_by n ≡ 18 = rw none (either n.lowers) in
+    let lowered : lowered_by n ≡ length n.fraction = rw none (other n.lowers (length n.fraction)) in
+    ap (λ i. fixed_quotient n.negative (mantissa_of n * 10 ^ i) (10 ^ lowered_by n)) raised ∙ ap (λ i. fixed_quotient n.negative (mantissa_of n * 10 ^ 18) (10 ^ i)) lowered
+  where
+    either : (b : Bool) → 18 + (if b then 0 else 0) ≡ 18
+    either true = refl
+    either false = refl
+
+    other : (b : Bool) (k : ℕ) → k + (if b then 0 else 0) ≡ k
+    other true k = omega arith
+    other false k = omega arith
+
+pub no_items : (xs : List ℕ) → length xs ≡ 0 → xs ≡ []
+no_items [] e = refl
+no_items (x ∷ xs) e = absurd (omega (arith, e))

@@ -10,9 +10,13 @@ use crate::fault::FixedFault;
 use crate::fixed::{Fixed, MOST_UNITS, with_sign};
 use crate::mantissa::{MOST_EXPONENT, Mantissa, capped_value, push_digits, shifted, stripped};
 use crate::numeral::parts_of;
+use crate::powers::power_of_ten;
 
 // The places of a unit after the point.
 const PLACES: u128 = 18;
+
+// The same, as a number of digits.
+const MOST_PLACES: usize = 18;
 
 // So many digits have a number below 2^64.
 const SHORT_DIGITS: usize = 19;
@@ -26,13 +30,33 @@ pub fn read_fixed(text: &str) -> Result<Fixed, FixedFault>
     let Some(parts) = parts_of(text.as_bytes()) else {
         return Err(FixedFault::Shape);
     };
+    let scale = parts.fraction.len();
+    if parts.exponent.is_empty()
+        && scale <= MOST_PLACES
+        && parts.whole.len() + scale <= SHORT_DIGITS
+    {
+        return short_fixed(parts.negative, parts.low, scale);
+    }
     fixed_from(
         parts.negative,
         mantissa_of(parts.whole, parts.fraction, parts.low),
         parts.lowers,
         capped_value(parts.exponent),
-        parts.fraction.len() as u128,
+        scale as u128,
     )
+}
+
+// The number of few digits, of which so many are after the point. There is no exponent.
+fn short_fixed(negative: bool, digits: u64, scale: usize) -> Result<Fixed, FixedFault>
+    requires { scale ≤ 18 }
+    ensures { result ≡ fixed_quotient negative (digits * 10 ^ 18) (10 ^ scale) }
+{
+    let units = u128::from(digits) * power_of_ten(MOST_PLACES - scale);
+    if units <= MOST_UNITS {
+        Ok(with_sign(negative, units))
+    } else {
+        Err(FixedFault::Range)
+    }
 }
 
 // The mantissa of the digits before and after a point, whose number's low 64 bits are at hand.

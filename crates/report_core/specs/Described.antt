@@ -65,7 +65,7 @@ unless_refused problem rows (Some fault) = Err fault
 abbrev pub table_description : ProblemValue → TableState → Result (List ℕ) RowFault
 table_description problem table = unless_refused problem (rows_left problem table).0 (rows_left problem table).1
 
--- the description of a table was appended, or a prefix of it where memory ran out, or nothing at a refused row
+-- the description of a table was appended, or a prefix of it if memory ran out, or nothing at a refused row
 pub record Describes {T : Type 0} (answer : Result (List ℕ) RowFault) (old new : List ℕ) (result : Result T RowFault) : Type 0 where
   pub text : IfOk answer (λ text. Puts old new result text)
   pub refused : IfErr answer (λ why. (result ≡ Err why) ⊎ (result ≡ Err fault.NoMemory))

@@ -1,4 +1,4 @@
--- What ends a report where reading a row ends with a fault.
+-- What ends a report when reading a row ends with a fault.
 use Rattle.table_core.specs.declared.fault.RowFault.{RowFault}
 use Rattle.table_core.specs.declared.fault.RowFault.TheVariants as row
 use Rattle.report_core.specs.declared.fault.ReportFault.{ReportFault}

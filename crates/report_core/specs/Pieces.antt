@@ -44,7 +44,7 @@ WritesPiece problem model table table' old new (Ok true) =
 WritesPiece problem model table table' old new (Ok false) = Appends old.written new.written (rows_text problem model table) × TakesAll problem table table'
 WritesPiece problem model table table' old new (Err why) = EndsWriting problem table (rows_text problem model table) old new why
 
--- the rows that a table has left were written, after what stands before them in the text
+-- the rows that a table has left were written, after the header
 abbrev pub WritesRows : ProblemValue → TableState → List ℕ → SinkState → SinkState → Result ℕ ReportFault → Type 0
 WritesRows problem table text old new (Ok count) = Appends old.written new.written text × ((rows_left problem table).1 ≡ None) × (count ≡ length (rows_left problem table).0)
 WritesRows problem table text old new (Err why) = EndsWriting problem table text old new why

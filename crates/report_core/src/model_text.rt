@@ -12,7 +12,7 @@ use model_text_core::{put_places, put_weights};
 use problem_core::{Criterion, Grade, Problem, Scale, put_quoted_grade};
 use std::alloc::AllocError;
 
-/// What stands before a threshold: on a falling scale it is the greatest grade that is accepted, else the least.
+/// The words before a threshold: it is the greatest accepted grade on a falling scale, and the least on any other.
 fn bound_word(scale: &Scale) -> &'static str
     ensures { result.now ≡ bound_word scale.now }
 {

@@ -22,7 +22,8 @@ loop-preserved g c =
     let after = done.later in
     record {
       fits = done.fits;
-      sent = sent_next _ _ _ _ _ _ _ it.sent more.1.text more.2;
+      sent = sent_next (g.O.Sink.state c.args.sink.now).written (g.O.Sink.state c.loop.sink).written (g.O.Sink.state c.write_piece.new.sink).written
+          (rows_text problem rule c.args.table.now) (rows_text problem rule c.loop.table) more.0 (rows_text problem rule c.write_piece.new.table) it.sent more.1.text more.2;
       end = it.end ∙ more.1.end;
       count = omega (arith, count, taken);
       later = omega (arith, before, after);
