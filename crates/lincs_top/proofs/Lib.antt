@@ -4,3 +4,5 @@ pub mod Running
 mod Then
 mod SayLemmas
 mod Judging
+mod Headline
+mod Learning

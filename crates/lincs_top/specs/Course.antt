@@ -3,7 +3,8 @@ use Rattle.std.specs.Prelude.{◌≡◌, ◌⊎◌, ◌+◌, ℕ, Bool, false, L
 use Rattle.literals_core.specs.declared.encoding.Encoding.{Encoding}
 use Rattle.chain_core.specs.Text.{dimacs_text}
 use Rattle.chain_core.specs.declared.log.Lemma.{Lemma}
-use Rattle.sorting_rule.specs.Examples.{HasNoModel}
+use Rattle.sorting_rule.specs.Examples.{Example, HasNoModel}
+use Rattle.problem_core.specs.Problem.{ProblemValue}
 use Rattle.encoding_rules.specs.Task.{Task}
 use Rattle.encoding_rules.specs.Encodings.{formula_of, HasFormula}
 use Rattle.ranks_core.specs.Ranks.{task_of}
@@ -14,13 +15,14 @@ use Rattle.report_core.specs.Classified.{classified_text}
 use Rattle.report_core.specs.Described.{problem_description, table_description}
 use Rattle.report_core.specs.DescribedModel.{model_description}
 use Rattle.lincs_top.specs.Output.{accuracy_text, end_of_rows, end_of_text, text_or_none}
-use Rattle.line_core.specs.Command.{Command, classifying, rating, encoding, checking, describing_problem, describing_model, describing_table}
+use Rattle.line_core.specs.Command.{Command, classifying, rating, learning, encoding, checking, describing_problem, describing_model, describing_table}
 use Rattle.lincs_top.specs.declared.stop.Size.{Size}
 use Rattle.lincs_top.specs.declared.stop.Verdict.{Verdict}
 use Rattle.lincs_top.specs.declared.stop.Verdict.TheVariants.{Done}
 use Rattle.lincs_top.specs.End.{End, gave, unread, over, Outcome, silent}
 use Rattle.lincs_top.specs.FileGives.{FileStep, given, problem_in, model_in, table_in, examples_in, log_in}
 use Rattle.lincs_top.specs.Judged.{Judged, judged_text}
+use Rattle.lincs_top.specs.Learned.{Learned}
 use Rattle.lincs_top.specs.Size.{IsOver}
 
 -- what a course meets: the files, and the place among the command's files of the one that can't be read, if
@@ -70,6 +72,13 @@ pub record Judges (how : Encoding) (task : Task) (log : List Lemma) (opened : �
   pub means : verdict ≡ Done → HasNoModel task.directions task.categories task.examples
   pub is : outcome ≡ record { end = gave verdict; output = judged_text verdict; opened = opened }
 
+-- examples are learned from, with so many lemmas at most: the output is what the verdict says
+pub record Decides (problem : ProblemValue) (examples : List Example) (how : Encoding) (most : ℕ) (opened : ℕ) (world : World) (outcome : Outcome) : Type 0 where
+  pub verdict : Verdict
+  pub text : List ℕ
+  pub learned : Learned problem examples how most verdict text
+  pub is : outcome ≡ record { end = gave verdict; output = text; opened = opened }
+
 -- a command that is not built has no course
 abbrev pub NotBuilt : ℕ → World → Outcome → Type 0
 NotBuilt opened world outcome = ⊥
@@ -86,6 +95,11 @@ course (rating problem_name model_name table_name) =
     Reads (model_in problem) model_name (λ model.
     Reads (examples_in problem) table_name (λ examples.
     Writes (gave Done) (accuracy_text (rule_of problem model) examples))))
+course (learning problem_name table_name how most) =
+    Reads problem_in problem_name (λ problem.
+    Reads (examples_in problem) table_name (λ examples.
+    Sizes how (task_of problem examples) (
+    Decides problem examples how most)))
 course (encoding problem_name table_name how) =
     Reads problem_in problem_name (λ problem.
     Reads (examples_in problem) table_name (λ examples.

@@ -6,6 +6,7 @@ pub mod FileGives
 pub mod Size
 pub mod Deliver
 pub mod Judged
+pub mod Learned
 pub mod Course
 pub mod FileStep
 pub mod Refusal
@@ -15,3 +16,4 @@ pub mod Line
 pub mod Stop
 pub mod Obeys
 pub mod Run
+pub mod Headline

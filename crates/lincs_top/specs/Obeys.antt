@@ -4,9 +4,9 @@ use Rattle.std.specs.Io.KnownBytes.{Appends}
 use Rattle.chain_core.specs.declared.fault.CheckFault.{CheckFault}
 use Rattle.edge_core.specs.Outside.{Files, ShelfState, SinkState, KeepsHeld, Rose, AppendsPart}
 use Rattle.lincs_top.specs.declared.stop.Verdict.{Verdict}
-use Rattle.lincs_top.specs.declared.stop.Verdict.TheVariants.{Done}
+use Rattle.lincs_top.specs.declared.stop.Verdict.TheVariants.{Done, No, Limit}
 use Rattle.lincs_top.specs.declared.stop.Stop.{Stop}
-use Rattle.line_core.specs.Command.{Command, classifying, rating, encoding, checking, describing_problem, describing_model, describing_table}
+use Rattle.line_core.specs.Command.{Command, classifying, rating, learning, encoding, checking, describing_problem, describing_model, describing_table}
 use Rattle.lincs_top.specs.Command.{names_of, streams, makes_formula}
 use Rattle.lincs_top.specs.Course.{World, Ends, readable, unreadable_at}
 use Rattle.report_core.specs.Prefix.{AppendsPrefix}
@@ -24,6 +24,7 @@ MayOpen shelf command = All (λ name. IsTrue (shelf.may_open name)) (names_of co
 abbrev pub CanGive : Command → Verdict → Type 0
 CanGive (classifying problem model table) verdict = verdict ≡ Done
 CanGive (rating problem model table) verdict = verdict ≡ Done
+CanGive (learning problem table how most) verdict = (verdict ≡ Done) ⊎ (verdict ≡ No) ⊎ (verdict ≡ Limit most)
 CanGive (encoding problem table how) verdict = verdict ≡ Done
 CanGive (checking problem table refutation) verdict = (verdict ≡ Done) ⊎ ((fault : CheckFault) × (verdict ≡ rejected fault))
 CanGive (describing_problem problem) verdict = verdict ≡ Done

@@ -1,10 +1,11 @@
 //! Writes the output of a command.
 ghost use Rattle.std.specs.Prelude.{false, ℕ, List};
+ghost use Rattle.edge_core.specs.Outside.{SinkState, Sends};
 ghost use Rattle.lincs_top.specs.Deliver.{Concludes, MakesText};
 ghost use Rattle.lincs_top.specs.End.{gave};
 
 use crate::stop::{Stop, Verdict};
-use edge_core::{Sink, put_all};
+use edge_core::{Failed, Sink, put_all};
 use std::alloc::AllocError;
 
 /// Writes the whole output of a command, and returns its verdict.
@@ -18,6 +19,17 @@ pub fn write_out<'a, O: Sink>(
     match put_all(out, text) {
         Ok(()) => Ok(verdict),
         Err(_) => Err(Stop::Unwritten),
+    }
+}
+
+/// The verdict of a command whose whole output was sent, or that the output failed.
+pub fn conclude<'a>(sent: Result<(), Failed>, verdict: Verdict) -> Result<Verdict, Stop<'a>>
+    ensures { (text : List ℕ) (old new : SinkState) → Sends old new text sent
+        → Concludes false (gave verdict) text old new result }
+{
+    match sent {
+        Ok(()) => Ok(verdict),
+        Err(Failed) => Err(Stop::Unwritten),
     }
 }
 

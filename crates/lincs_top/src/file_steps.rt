@@ -1,5 +1,6 @@
 //! The steps of the files: each opens one file and reads what it holds.
 ghost use Rattle.std.specs.Prelude.{◌≡◌, IsTrue, IfOk};
+ghost use Rattle.problem_core.specs.Problem.{IsProblem};
 ghost use Rattle.model_core.specs.Model.{Belongs};
 ghost use Rattle.table_core.specs.Examples.{BelongTo};
 ghost use Rattle.table_core.specs.Table.{IsTableOf};
@@ -104,6 +105,7 @@ pub fn problem_of_file<'a, S: Shelf>(
 ) -> Result<Problem, Stop<'a>>
     requires { IsTrue ((S.state shelf.old).may_open name.now) }
     ensures step { TakesStep (S.state shelf.old) (S.state shelf.new) problem_in name.now result }
+    ensures sound { IfOk result IsProblem }
 {
     let node = read_tree(alloc, shelf, name)?;
     match read_problem(alloc, &node) {

@@ -17,8 +17,8 @@ use ranks_core::{EncodeFault, Ranks};
 use std::alloc::Global;
 use table_core::Examples;
 
-// The stop of a formula that is too large, or out of memory.
-fn size_stop<'a>(criteria: u32, fault: EncodeFault) -> Stop<'a>
+/// The stop of a formula that is too large, or out of memory.
+pub fn size_stop<'a>(criteria: u32, fault: EncodeFault) -> Stop<'a>
     ensures { result ≡ size_stop criteria fault }
 {
     match fault {

@@ -1,9 +1,10 @@
 //! The top call.
 ghost use Rattle.std.specs.Prelude.{◌≡◌, ◌≢◌, ◌↔◌, Err, IsTrue, IsErr};
-ghost use Rattle.line_core.specs.Command.{command_of, verb_of};
+ghost use Rattle.line_core.specs.Command.{HasItsRanges, command_of, verb_of};
 ghost use Rattle.line_core.specs.Commands.{is_built};
 ghost use Rattle.line_core.specs.Line.{line_gives};
 ghost use Rattle.line_core.specs.Texts.{texts};
+ghost use Rattle.lincs_top.specs.Headline.{Sorts, FindsModel, WritesRefutation, WritesLemmas, Accepts};
 ghost use Rattle.lincs_top.specs.Obeys.{MayOpen, Obeys};
 ghost use Rattle.lincs_top.specs.Run.{MayOpenIn, DoesLine, Reports, StatusTells, Completes};
 
@@ -12,6 +13,7 @@ use crate::check::check_refutation;
 use crate::classify::classify;
 use crate::describe::{tell_model, tell_problem, tell_table};
 use crate::encode::write_formula;
+use crate::learn::learn_model;
 use crate::line::write_line;
 use crate::status::Status;
 use crate::stop::{Stop, Verdict, status_of};
@@ -27,6 +29,7 @@ fn obey<'a, S: Shelf, O: Sink>(
     out: &mut O,
 ) -> Result<Verdict, Stop<'a>>
     requires names { MayOpen (S.state shelf.old) (command_of job) }
+    requires ranges { HasItsRanges (command_of job) }
     requires built { IsTrue (is_built (verb_of (command_of job))) }
     ensures { Obeys (command_of job.entry) (S.state shelf.old) (S.state shelf.new) (O.state out.old) (O.state out.new) result }
 {
@@ -41,6 +44,12 @@ fn obey<'a, S: Shelf, O: Sink>(
             model,
             table,
         } => rate(alloc, problem, model, table, shelf, out),
+        Job::Learn {
+            problem,
+            table,
+            encoding,
+            most,
+        } => learn_model(alloc, problem, table, encoding, most, shelf, out),
         Job::Encode {
             problem,
             table,
@@ -91,7 +100,14 @@ pub fn run<S: Shelf, O: Sink, E: Sink>(
     ensures report { Reports (line_gives (texts words.now)) (S.state shelf.old) (S.state shelf.new)
         (O.state out.old) (O.state out.new) (E.state err.old) (E.state err.new) result }
 
-    // What follows from it.
+    // The headline: what a status says of told files and of what was written.
+    ensures sorted { result ≡ Status.Done → Sorts (line_gives (texts words.now)) (S.state shelf.old) (O.state out.old) (O.state out.new) }
+    ensures model { result ≡ Status.Done → FindsModel (line_gives (texts words.now)) (S.state shelf.old) (O.state out.old) (O.state out.new) }
+    ensures refutation { result ≡ Status.No → WritesRefutation (line_gives (texts words.now)) (S.state shelf.old) (O.state out.old) (O.state out.new) }
+    ensures lemmas { result ≡ Status.Limit → WritesLemmas (line_gives (texts words.now)) (S.state shelf.old) (O.state out.old) (O.state out.new) }
+    ensures accepted { result ≡ Status.Done → Accepts (line_gives (texts words.now)) (S.state shelf.old) }
+
+    // What follows from the report.
     ensures usage { (result ≡ Status.Usage) ↔ IsErr (line_gives (texts words.now)) }
     ensures tells { StatusTells (line_gives (texts words.now)) (S.state shelf.old) (S.state shelf.new)
         (O.state out.old) (O.state out.new) result }

@@ -1,3 +1,3 @@
 mod NumberLemmas
 mod BuiltLemmas
-mod RangeLemmas
+pub mod RangeLemmas

@@ -18,6 +18,7 @@ verbs = verb.Classify ∷ verb.Accuracy ∷ verb.Learn ∷ verb.Encode ∷ verb.
 abbrev pub is_built : Verb → Bool
 is_built verb.Classify = true
 is_built verb.Accuracy = true
+is_built verb.Learn = true
 is_built verb.Encode = true
 is_built verb.CheckRefutation = true
 is_built verb.DescribeProblem = true

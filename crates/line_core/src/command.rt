@@ -128,7 +128,7 @@ pub(crate) fn is_built(verb: Verb) -> bool
 {
     match verb {
         Verb::Classify | Verb::Accuracy => true,
-        Verb::Encode | Verb::CheckRefutation => true,
+        Verb::Learn | Verb::Encode | Verb::CheckRefutation => true,
         Verb::DescribeProblem | Verb::DescribeModel | Verb::DescribeTable => true,
         _ => false,
     }

@@ -12,3 +12,5 @@ pub mod Examples
 pub mod FlowTexts
 pub mod RowTexts
 pub mod SameLists
+pub mod Counts
+pub mod LearnedRoots

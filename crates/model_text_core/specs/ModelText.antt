@@ -149,3 +149,18 @@ pub record ReadsBack (problem : ProblemValue) (m : ModelValue) : Type 0 where
   pub of_text : text_tree (model_text problem m) ≡ Some tree
   pub of_bytes : node_count tree ≤ 16777216 → reading (model_text problem m) ≡ Ok tree
   pub model : model_of problem tree ≡ Ok m
+
+-- at most 65,536 roots: no more than the sets of 16 criteria
+abbrev pub HasFewRoots : Coalitions → Type 0
+HasFewRoots (Weights ws) = Unit {0}
+HasFewRoots (Roots rs) = length rs ≤ 65536
+
+-- the coalitions of each boundary have few roots
+abbrev pub HaveFewRoots : ModelValue → Type 0
+HaveFewRoots m = All HasFewRoots m.coalitions
+
+-- The bytes of the text read as a tree, and for the problem that tree is the model.
+pub record ReadsWhole (problem : ProblemValue) (m : ModelValue) : Type 0 where
+  pub tree : Node
+  pub of_bytes : reading (model_text problem m) ≡ Ok tree
+  pub model : model_of problem tree ≡ Ok m

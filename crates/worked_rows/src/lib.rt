@@ -12,6 +12,8 @@ mod faults;
 #[cfg(test)]
 mod formulas;
 #[cfg(test)]
+mod learn;
+#[cfg(test)]
 mod limits;
 #[cfg(test)]
 mod refused;

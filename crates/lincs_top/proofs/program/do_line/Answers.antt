@@ -1,4 +1,5 @@
 use Rattle.std.proofs.Common.{sym, subst}
+use Rattle.line_core.proofs.RangeLemmas.{line_ranges}
 use Rattle.lincs_top.specs.Run.{MayOpenIn}
 use Rattle.lincs_top.proofs.Running.{line_refused, line_done}
 use Rattle.lincs_top.proofs.program.do_line.Goals as goal
@@ -11,3 +12,6 @@ returns-in-Ok g c = line_done (sym c.in-Ok.ensures.job) c.obey.ensures
 
 pub returns-in-Err : goal.returns-in-Err
 returns-in-Err g c = line_refused _ _ (sym c.in-Err.ensures.job)
+
+pub obey-requires-clause-ranges : goal.obey-requires-clause-ranges
+obey-requires-clause-ranges g c = line_ranges _ _ (sym c.in-Ok.ensures.job)
