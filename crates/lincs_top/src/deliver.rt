@@ -8,6 +8,16 @@ use crate::stop::{Stop, Verdict};
 use edge_core::{Failed, Sink, put_all};
 use std::alloc::AllocError;
 
+/// Returns what a command comes to once its output was sent: its verdict, or that the output failed.
+pub fn concluded<'a>(sent: Result<(), Failed>, verdict: Verdict) -> Result<Verdict, Stop<'a>>
+    ensures { (old new : SinkState) (text : List ℕ) → Sends old new text sent → Concludes false (gave verdict) text old new result }
+{
+    match sent {
+        Ok(()) => Ok(verdict),
+        Err(Failed) => Err(Stop::Unwritten),
+    }
+}
+
 /// Writes the whole output of a command, and returns its verdict.
 pub fn write_out<'a, O: Sink>(
     out: &mut O,
@@ -16,21 +26,7 @@ pub fn write_out<'a, O: Sink>(
 ) -> Result<Verdict, Stop<'a>>
     ensures { Concludes false (gave verdict) text.now (O.state out.old) (O.state out.new) result }
 {
-    match put_all(out, text) {
-        Ok(()) => Ok(verdict),
-        Err(_) => Err(Stop::Unwritten),
-    }
-}
-
-/// The verdict of a command whose whole output was sent, or that the output failed.
-pub fn conclude<'a>(sent: Result<(), Failed>, verdict: Verdict) -> Result<Verdict, Stop<'a>>
-    ensures { (text : List ℕ) (old new : SinkState) → Sends old new text sent
-        → Concludes false (gave verdict) text old new result }
-{
-    match sent {
-        Ok(()) => Ok(verdict),
-        Err(Failed) => Err(Stop::Unwritten),
-    }
+    concluded(put_all(out, text), verdict)
 }
 
 /// Writes the whole output of a command, and returns its verdict. Nothing is written if there was no

@@ -1,28 +1,19 @@
 //! The command that writes the formula of a table's examples.
 ghost use Rattle.std.specs.Prelude.{IsTrue};
 ghost use Rattle.line_core.specs.Command.{encoding};
-ghost use Rattle.chain_core.specs.Text.{dimacs_text};
-ghost use Rattle.lincs_top.specs.Deliver.{MakesText};
 ghost use Rattle.lincs_top.specs.Obeys.{Obeys};
 
-use crate::deliver::deliver;
+use crate::deliver::concluded;
 use crate::file_steps::{examples_of_file, problem_of_file};
 use crate::formulas::formula_of_examples;
 use crate::stop::{Stop, Verdict};
-use chain_core::{Encoding, Formula, put_dimacs};
+use chain_core::Encoding;
 use edge_core::{Shelf, Sink};
-use std::alloc::{AllocError, Global};
-
-fn formula_text(alloc: Global, formula: &Formula) -> Result<Vec<u8>, AllocError>
-    ensures { MakesText (dimacs_text formula.now) result }
-{
-    let mut text = Vec::new(alloc);
-    put_dimacs(formula, &mut text)?;
-    Ok(text)
-}
+use std::alloc::Global;
+use stream_core::send_dimacs;
 
 /// Writes the formula of a table's examples in the DIMACS format. Both files are read and accepted before,
-/// and the formula is not too large.
+/// and the formula is not too large. Its text takes no memory.
 pub fn write_formula<'a, S: Shelf, O: Sink>(
     alloc: Global,
     problem: &'a str,
@@ -38,5 +29,5 @@ pub fn write_formula<'a, S: Shelf, O: Sink>(
     let criteria = problem_of_file(alloc, shelf, problem)?;
     let rows = examples_of_file(alloc, &criteria, shelf, table)?;
     let formula = formula_of_examples(alloc, how, &criteria, &rows)?;
-    deliver(out, formula_text(alloc, &formula), Verdict::Done)
+    concluded(send_dimacs(&formula, out), Verdict::Done)
 }

@@ -1,5 +1,5 @@
 //! The command that learns a model from a table.
-ghost use Rattle.std.specs.Prelude.{◌≤◌, false, ℕ, List, IsTrue, IfOk};
+ghost use Rattle.std.specs.Prelude.{◌≤◌, List, IsTrue, IfOk};
 ghost use Rattle.line_core.specs.Command.{learning};
 ghost use Rattle.sorting_rule.specs.Examples.{Example};
 ghost use Rattle.problem_core.specs.Problem.{IsProblem};
@@ -7,24 +7,22 @@ ghost use Rattle.table_core.specs.Examples.{BelongTo};
 ghost use Rattle.ranks_core.specs.Ranks.{task_of};
 ghost use Rattle.model_core.specs.Model.{Belongs};
 ghost use Rattle.learn_core.specs.Learning.{IfFound};
-ghost use Rattle.chain_core.specs.Text.{log_text};
-ghost use Rattle.lincs_top.specs.Deliver.{Concludes, MakesText};
-ghost use Rattle.lincs_top.specs.End.{gave};
 ghost use Rattle.lincs_top.specs.Learned.{IsAnswer, TellsModel, TellsLearned};
 ghost use Rattle.lincs_top.specs.Obeys.{Obeys};
 ghost use Rattle.lincs_top.specs.Size.{TakesSize};
 
-use crate::deliver::{deliver, write_out};
+use crate::deliver::{concluded, write_out};
 use crate::file_steps::{examples_of_file, problem_of_file};
 use crate::formulas::size_stop;
 use crate::stop::{Stop, Verdict};
-use chain_core::{Encoding, Log, write_log};
+use chain_core::Encoding;
 use edge_core::{Shelf, Sink};
 use learn_core::{Answer, learn};
 use model_core::Model;
 use model_text_core::write_model;
 use problem_core::Problem;
-use std::alloc::{AllocError, Global};
+use std::alloc::Global;
+use stream_core::send_log;
 use table_core::Examples;
 
 // What learning from examples comes to, unless their formula is too large.
@@ -64,27 +62,6 @@ fn write_found<'a, O: Sink>(
     write_out(out, &text, Verdict::Done)
 }
 
-fn log_text(alloc: Global, how: Encoding, log: &Log) -> Result<Vec<u8>, AllocError>
-    ensures { MakesText (log_text how log.now) result }
-{
-    let mut text = Vec::new(alloc);
-    write_log(how, log, &mut text)?;
-    Ok(text)
-}
-
-// Writes a log, and returns the verdict.
-fn write_lemmas<'a, O: Sink>(
-    alloc: Global,
-    how: Encoding,
-    log: &Log,
-    verdict: Verdict,
-    out: &mut O,
-) -> Result<Verdict, Stop<'a>>
-    ensures { Concludes false (gave verdict) (log_text how log.now) (O.state out.old) (O.state out.new) result }
-{
-    deliver(out, log_text(alloc, how, log), verdict)
-}
-
 // Writes what learning came to: a model, a refutation, or the log at the limit.
 fn write_answer<'a, O: Sink>(
     alloc: Global,
@@ -100,8 +77,8 @@ fn write_answer<'a, O: Sink>(
 {
     match answer {
         Answer::Found(model) => write_found(alloc, problem, model, out),
-        Answer::Refuted(accepted) => write_lemmas(alloc, how, accepted.log(), Verdict::No, out),
-        Answer::Limit(log) => write_lemmas(alloc, how, log, Verdict::Limit(most), out),
+        Answer::Refuted(accepted) => concluded(send_log(how, accepted.log(), out), Verdict::No),
+        Answer::Limit(log) => concluded(send_log(how, log, out), Verdict::Limit(most)),
     }
 }
 

@@ -1,6 +1,6 @@
 use Rattle.std.proofs.Common.{refl, subst}
 use Rattle.chain_core.specs.Text.{dimacs_text}
-use Rattle.lincs_top.specs.Deliver.{MakesText}
+use Rattle.edge_core.specs.Outside.{Sends}
 use Rattle.lincs_top.proofs.Came.{came_none, came_on, came_to_a_stop, came_sized, came_to_a_size, came_to_an_end}
 use Rattle.lincs_top.proofs.encode.write_formula.Goals as goal
 
@@ -19,4 +19,4 @@ returns-in_err-formula g c =
 pub returns : goal.returns
 returns g c =
     came_to_an_end (came_sized (came_on _ (came_on _ (came_none _ _) c.in_ok-criteria.ensures.step) c.in_ok-rows.ensures.step) c.in_ok-formula.ensures.size)
-    (c.deliver.ensures _ (subst (λ f. MakesText (dimacs_text f) c.formula_text.result) c.in_ok-formula.ensures.formula c.formula_text.ensures)) refl
+    (c.concluded.ensures _ _ _ (subst (λ f. Sends (g.O.Sink.state c.args.out.now) (g.O.Sink.state c.send_dimacs.new.sink) (dimacs_text f) c.send_dimacs.result) c.in_ok-formula.ensures.formula c.send_dimacs.ensures.sends)) refl
