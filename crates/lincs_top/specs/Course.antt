@@ -1,5 +1,5 @@
 -- How a command goes over files: its course.
-use Rattle.std.specs.Prelude.{◌≡◌, ◌⊎◌, ◌+◌, ℕ, Bool, false, List, Option, None, Some, Result, Ok, Err, ◌==◌, if◌then◌else◌}
+use Rattle.std.specs.Prelude.{◌≡◌, ◌⊎◌, ◌+◌, ◌*◌, ℕ, Bool, false, List, length, Option, None, Some, Result, Ok, Err, ◌==◌, if◌then◌else◌}
 use Rattle.literals_core.specs.declared.encoding.Encoding.{Encoding}
 use Rattle.chain_core.specs.Text.{dimacs_text}
 use Rattle.chain_core.specs.declared.log.Lemma.{Lemma}
@@ -14,8 +14,14 @@ use Rattle.model_core.specs.Model.{rule_of}
 use Rattle.report_core.specs.Classified.{classified_text}
 use Rattle.report_core.specs.Described.{problem_description, table_description}
 use Rattle.report_core.specs.DescribedModel.{model_description}
+use Rattle.draw_core.specs.Words.{seeded, words_of}
+use Rattle.draw_core.specs.DrawnProblem.{drawn_problem}
+use Rattle.draw_core.specs.DrawnModel.{drawn_model, model_words}
+use Rattle.draw_core.specs.DrawnTable.{drawn_table}
+use Rattle.problem_text_core.specs.ProblemText.{problem_text}
+use Rattle.model_text_core.specs.ModelText.{model_text}
 use Rattle.lincs_top.specs.Output.{accuracy_text, end_of_rows, end_of_text, text_or_none}
-use Rattle.line_core.specs.Command.{Command, classifying, rating, learning, encoding, checking, describing_problem, describing_model, describing_table}
+use Rattle.line_core.specs.Command.{Command, classifying, rating, learning, encoding, checking, describing_problem, describing_model, describing_table, generating_problem, generating_model, generating_table}
 use Rattle.lincs_top.specs.declared.stop.Size.{Size}
 use Rattle.lincs_top.specs.declared.stop.Verdict.{Verdict}
 use Rattle.lincs_top.specs.declared.stop.Verdict.TheVariants.{Done}
@@ -122,6 +128,15 @@ course (describing_table problem_name table_name) =
     Reads problem_in problem_name (λ problem.
     Reads (table_in problem) table_name (λ table.
     Writes (end_of_text table_name (table_description problem table)) (text_or_none (table_description problem table))))
+course (generating_problem criteria categories seed) =
+    Writes (gave Done) (problem_text (drawn_problem criteria categories (words_of (seeded seed) criteria)))
+course (generating_model problem_name seed) =
+    Reads problem_in problem_name (λ problem.
+    Writes (gave Done) (model_text problem (drawn_model problem (words_of (seeded seed) (model_words problem)))))
+course (generating_table problem_name model_name rows seed) =
+    Reads problem_in problem_name (λ problem.
+    Reads (model_in problem) model_name (λ model.
+    Writes (gave Done) (drawn_table problem (rule_of problem model) rows (words_of (seeded seed) (rows * length problem.criteria)))))
 course command = NotBuilt
 
 -- a course of the command ends so

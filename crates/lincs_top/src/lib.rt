@@ -10,6 +10,7 @@ mod encode;
 mod fault_numbers;
 mod file_steps;
 mod formulas;
+mod generate;
 mod learn;
 mod line;
 mod process;

@@ -13,6 +13,7 @@ use crate::check::check_refutation;
 use crate::classify::classify;
 use crate::describe::{tell_model, tell_problem, tell_table};
 use crate::encode::write_formula;
+use crate::generate::{generate_model, generate_problem, generate_table};
 use crate::learn::learn_model;
 use crate::line::write_line;
 use crate::status::Status;
@@ -63,6 +64,20 @@ fn obey<'a, S: Shelf, O: Sink>(
         Job::DescribeProblem { problem } => tell_problem(alloc, problem, shelf, out),
         Job::DescribeModel { problem, model } => tell_model(alloc, problem, model, shelf, out),
         Job::DescribeTable { problem, table } => tell_table(alloc, problem, table, shelf, out),
+        Job::GenerateProblem {
+            criteria,
+            categories,
+            seed,
+        } => generate_problem(alloc, criteria, categories, seed, shelf, out),
+        Job::GenerateModel { problem, seed } => {
+            generate_model(alloc, problem, seed, shelf, out)
+        }
+        Job::GenerateTable {
+            problem,
+            model,
+            rows,
+            seed,
+        } => generate_table(alloc, problem, model, rows, seed, shelf, out),
         _ => unreachable!(),
     }
 }

@@ -24,6 +24,9 @@ is_built verb.CheckRefutation = true
 is_built verb.DescribeProblem = true
 is_built verb.DescribeModel = true
 is_built verb.DescribeTable = true
+is_built verb.GenerateProblem = true
+is_built verb.GenerateModel = true
+is_built verb.GenerateTable = true
 is_built other = false
 
 -- the words that a command begins with: one, or two

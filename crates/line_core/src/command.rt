@@ -130,6 +130,7 @@ pub(crate) fn is_built(verb: Verb) -> bool
         Verb::Classify | Verb::Accuracy => true,
         Verb::Learn | Verb::Encode | Verb::CheckRefutation => true,
         Verb::DescribeProblem | Verb::DescribeModel | Verb::DescribeTable => true,
+        Verb::GenerateProblem | Verb::GenerateModel | Verb::GenerateTable => true,
         _ => false,
     }
 }

@@ -1,0 +1,13 @@
+//! Test material from a seed: problems, models, tables and examples. Equal seeds draw equal material on every machine.
+#![tactic(auto)]
+
+mod choice;
+mod model;
+mod problem;
+mod quoting;
+mod rows;
+mod words;
+
+pub use model::draw_model;
+pub use problem::draw_problem;
+pub use rows::{draw_examples, draw_table};

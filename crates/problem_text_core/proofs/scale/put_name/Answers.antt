@@ -1,0 +1,9 @@
+use Rattle.lists_core.proofs.PutsFacts.{puts-then}
+use Rattle.problem_text_core.proofs.PutFacts.{first-cut}
+use Rattle.problem_text_core.proofs.scale.put_name.Goals as goal
+
+pub returns-in_err-put_comma : goal.returns-in_err-put_comma
+returns-in_err-put_comma c = first-cut _ _ _ _ c.from_residual.result c.from_residual.ensures.0 c.in_err-put_comma.ensures
+
+pub returns : goal.returns
+returns c = puts-then _ _ _ c.in_ok-put_comma.ensures _ _ c.put_quoted.result c.put_quoted.ensures.text

@@ -1,0 +1,2 @@
+pub mod ProblemText
+pub mod Parts
