@@ -104,7 +104,7 @@ pub named-grade : (names : List (List ℕ)) (c : ℕ) → IsDistinct bytes_eq na
 named-grade names c distinct lt =
     let name : List ℕ = get_or names c [] in
     let first : position_or_len (bytes_eq name) names ≡ c = position_or_len_is (bytes_eq name) names c [] (omega (arith, lt))
-        (λ k below. turned (get_or names k []) name (apart_from_distinct bytes_eq names k c [] distinct below lt)) (λ inside. (bytes_eq-Decides name name).1 refl) in
+    (λ k below. turned (get_or names k []) name (apart_from_distinct bytes_eq names k c [] distinct below lt)) (λ inside. (bytes_eq-Decides name name).1 refl) in
     (name, ap (λ n. place_grade (cond (nat_lt n (length names)) (Some n) None)) first ∙ ap (λ b. place_grade (cond b (Some c) None)) (lt-ltb c (length names) lt))
   where
     turned : (a b : List ℕ) → bytes_eq a b ≡ false → bytes_eq b a ≡ false

@@ -1,3 +1,4 @@
+mod Worked
 pub mod ListedFacts
 pub mod WordFacts
 pub mod StepFacts

@@ -36,10 +36,10 @@ row-later : (problem : ProblemValue) (g : Lcg) (rows row : ℕ) → row < rows
 row-later problem g rows row lt =
     let n : ℕ = length problem.criteria in
     listed_same (λ i. drawn_grade (scale_at problem.criteria i) (word (after (row * n) g) i)) (row_grade problem (words_of g (rows * n)) row) n (λ i small.
-        let within = mul-add-lt row n i rows lt small in
-        let turned = mul_comm n rows in
-        ap (drawn_grade (scale_at problem.criteria i))
-        (ap (λ (h : Lcg). (pcg32 h).0) (after-add g (row * n) i) ∙ sym (listed_at (word g) (rows * n) (row * n + i) 0 (omega (arith, within, turned)))))
+    let within = mul-add-lt row n i rows lt small in
+    let turned = mul_comm n rows in
+    ap (drawn_grade (scale_at problem.criteria i))
+    (ap (λ (h : Lcg). (pcg32 h).0) (after-add g (row * n) i) ∙ sym (listed_at (word g) (rows * n) (row * n + i) 0 (omega (arith, within, turned)))))
 
 -- before the first row
 pub row-start : (g now : Lcg) (n : ℕ) → now ≡ g → now ≡ after (0 * n) g
@@ -81,10 +81,11 @@ module _ (f : ℕ → List ℕ) (n k : ℕ) (old now new : List ℕ) (so_far : n
   pub each-cut : k < n → (j : ℕ) × (new ≡ now ++ take j (f k)) → (j : ℕ) × (new ≡ old ++ take j (each f n))
   each-cut lt part =
       let (rest, is) = each-rest f n k lt in
-      let (j, cut) = puts-cut now new (f k) rest part in
-      (length (each f k) + j,
-      cut ∙ ap (λ t. t ++ take j (f k ++ rest)) so_far ∙ append_assoc old (each f k) (take j (f k ++ rest)) ∙ ap (λ t. old ++ t) (sym (take-append-add (each f k) (f k ++ rest) j))
-          ∙ ap (λ t. old ++ take (length (each f k) + j) t) (sym is))
+      let (j, cut) = puts-cut now new (f k) rest part in (
+        length (each f k) + j,
+        cut ∙ ap (λ t. t ++ take j (f k ++ rest)) so_far ∙ append_assoc old (each f k) (take j (f k ++ rest)) ∙ ap (λ t. old ++ t) (sym (take-append-add (each f k) (f k ++ rest) j))
+            ∙ ap (λ t. old ++ take (length (each f k) + j) t) (sym is),
+      )
 
 -- ---- examples
 
@@ -96,8 +97,8 @@ module _ (problem : ProblemValue) (rule : Model) where
   pub drawn-push : (examples : List Example) (e : Example) → BelongTo problem examples → AllZip (λ criterion grade. IsGrade criterion.scale grade) problem.criteria e.grades → e.category < length problem.categories
       → BelongTo problem (examples ++ e ∷ [])
   drawn-push examples e so grades category = record {
-      grades = All-push (λ (x : Example). AllZip (λ criterion grade. IsGrade criterion.scale grade) problem.criteria x.grades) examples e so.grades grades;
-      categories = All-push (λ (x : Example). x.category < length problem.categories) examples e so.categories category;
+    grades = All-push (λ (x : Example). AllZip (λ criterion grade. IsGrade criterion.scale grade) problem.criteria x.grades) examples e so.grades grades;
+    categories = All-push (λ (x : Example). x.category < length problem.categories) examples e so.categories category;
   }
 
   -- the rule gives each drawn example its category

@@ -61,5 +61,6 @@ model_words problem = let n = length problem.criteria in n * boundaries_of probl
 -- the model, with the same weights at each boundary
 unfoldable pub drawn_model : ProblemValue → List ℕ → ModelValue
 drawn_model problem words = record {
-    profiles = listed (drawn_profile problem words) (length problem.criteria);
-    coalitions = replicate (boundaries_of problem) (Weights (drawn_weights problem words)) }
+  profiles = listed (drawn_profile problem words) (length problem.criteria);
+  coalitions = replicate (boundaries_of problem) (Weights (drawn_weights problem words));
+}

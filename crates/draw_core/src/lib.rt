@@ -6,6 +6,8 @@ mod model;
 mod problem;
 mod quoting;
 mod rows;
+#[cfg(test)]
+mod tests;
 mod words;
 
 pub use model::draw_model;

@@ -23,12 +23,7 @@ fn numbered(alloc: Global, text: &str, number: u32) -> Result<String, AllocError
 }
 
 /// Names of one text with the numbers from `first` on.
-fn numbered_names(
-    alloc: Global,
-    text: &str,
-    first: u32,
-    count: u32,
-) -> Result<Names, AllocError>
+fn numbered_names(alloc: Global, text: &str, first: u32, count: u32) -> Result<Names, AllocError>
     requires few { first + count ≤ 100 }
     requires differ { are_new (λ k. numbered text.now (k + first)) count ≡ true }
     ensures { IfOk result (λ names. names ≡ listed (λ k. numbered text.now (k + first)) count) }

@@ -7,6 +7,6 @@ use Rattle.draw_core.proofs.model.drawn_profiles.Given as goal
 
 abbrev pub invariant-loop-i : goal.invariant-loop-i
 invariant-loop-i l = record {
-    profiles : l.profiles.items ≡ listed (drawn_profile l.problem l.words) l.i;
-    grades : AllZip (λ criterion p. All (IsThreshold criterion.scale) p.thresholds) (take l.i l.problem.criteria) l.profiles.items;
+  profiles : l.profiles.items ≡ listed (drawn_profile l.problem l.words) l.i;
+  grades : AllZip (λ criterion p. All (IsThreshold criterion.scale) p.thresholds) (take l.i l.problem.criteria) l.profiles.items;
 }

@@ -42,7 +42,7 @@ push-requires-clause-same c =
     let problem : ProblemValue = c.args.problem.now in
     let n : ℕ = length problem.criteria in
     let size : length c.as_slice.result.now ≡ n =
-      ap length c.as_slice.ensures.value ∙ AllZip-long (λ (criterion : Criterion) (grade : ℤ). IsGrade criterion.scale grade) problem.criteria c.draw_row.new.grades.items c.in_ok-category.ensures.belong in
+    ap length c.as_slice.ensures.value ∙ AllZip-long (λ (criterion : Criterion) (grade : ℤ). IsGrade criterion.scale grade) problem.criteria c.draw_row.new.grades.items c.in_ok-category.ensures.belong in
     All-weaker (λ (e : Example). length e.grades ≡ n) (λ (e : Example). length e.grades ≡ length c.as_slice.result.now) (λ e same. same ∙ sym size) c.loop.examples
     (belong-lengths problem c.loop.examples c.loop.invariant.belong)
 
@@ -58,7 +58,7 @@ loop-preserved c =
     let grades : List ℤ = c.as_slice.result.now in
     let e : Example = record { grades = grades; category = c.in_ok-category.category } in
     let is : grades ≡ row_grades problem words k =
-      c.as_slice.ensures.value ∙ row-drawn problem g c.loop.generator c.args.rows k c.draw_row.new.grades.items lt c.loop.invariant.generator c.in_ok-category.ensures.grades in
+    c.as_slice.ensures.value ∙ row-drawn problem g c.loop.generator c.args.rows k c.draw_row.new.grades.items lt c.loop.invariant.generator c.in_ok-category.ensures.grades in
     let sorted : c.in_ok-category.category ≡ category rule grades = c.in_ok-category.ensures.category ∙ ap (category rule) (sym c.as_slice.ensures.value) in
     record {
       examples = listed-push (drawn_example problem rule words) k c.loop.examples c.push.new.self e c.in_ok-push.ensures.ok c.loop.invariant.examples (example-made problem rule words k grades c.in_ok-category.category is sorted);

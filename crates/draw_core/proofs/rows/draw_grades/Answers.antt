@@ -27,8 +27,8 @@ loop-i-preserved c =
     let lt : i < length criteria = omega arith in
     let (drawn, next) = word-step g c.loop-i.generator c.next_word.new.self i c.next_word.result c.loop-i.invariant.generator c.next_word.ensures in
     let here : c.chosen.result ≡ f i =
-      c.chosen.ensures.chosen ∙ ap (λ n. chosen c.scale_at-scale.result.now (c.next_word.result % n)) c.choice_count.ensures.count
-      ∙ ap (λ s. drawn_grade s c.next_word.result) c.scale_at-scale.ensures.scale ∙ ap (drawn_grade scale) drawn in
+    c.chosen.ensures.chosen ∙ ap (λ n. chosen c.scale_at-scale.result.now (c.next_word.result % n)) c.choice_count.ensures.count
+    ∙ ap (λ s. drawn_grade s c.next_word.result) c.scale_at-scale.ensures.scale ∙ ap (drawn_grade scale) drawn in
     record {
       grades = listed-push f i c.loop-i.grades.items c.push.new.self.items c.chosen.result c.in_ok-push.ensures.items c.loop-i.invariant.grades here;
       belong = subst (AllZip R (take (i + 1) criteria)) (sym c.in_ok-push.ensures.items)

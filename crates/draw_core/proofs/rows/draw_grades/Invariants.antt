@@ -9,7 +9,7 @@ use Rattle.draw_core.proofs.rows.draw_grades.Given as goal
 
 abbrev pub invariant-loop-i : goal.invariant-loop-i
 invariant-loop-i l = record {
-    grades : l.grades.items ≡ listed (λ k. drawn_grade (scale_at l.problem.criteria k) (word l.fn.generator k)) l.i;
-    belong : AllZip (λ criterion grade. IsGrade criterion.scale grade) (take l.i l.problem.criteria) l.grades.items;
-    generator : l.generator ≡ after l.i l.fn.generator;
+  grades : l.grades.items ≡ listed (λ k. drawn_grade (scale_at l.problem.criteria k) (word l.fn.generator k)) l.i;
+  belong : AllZip (λ criterion grade. IsGrade criterion.scale grade) (take l.i l.problem.criteria) l.grades.items;
+  generator : l.generator ≡ after l.i l.fn.generator;
 }

@@ -33,7 +33,7 @@ returns c =
     let end : List ℕ = next_text category ++ 10 ∷ [] in
     let named : c.as_bytes.result.now ≡ category = c.as_bytes.ensures.value ∙ sym (get_or_from_slice_get c.args.problem.now.categories c.args.category c.category.result.now [] c.category.ensures) in
     let last : Puts c.put_cells.new.out.items c.put_last.new.out.items c.put_last.result end =
-      subst (λ t. Puts c.put_cells.new.out.items c.put_last.new.out.items c.put_last.result (next_text t ++ 10 ∷ [])) named c.put_last.ensures in
+    subst (λ t. Puts c.put_cells.new.out.items c.put_last.new.out.items c.put_last.result (next_text t ++ 10 ∷ [])) named c.put_last.ensures in
     subst (Puts c.args.out.now.items c.put_last.new.out.items c.put_last.result) (sym (record_text-between name (cells_of c.args.problem.now c.args.grades.now) category))
     (puts-then c.args.out.now.items c.put_name.new.out.items (field_text name) c.in_ok-put_name.ensures _ (middle ++ end) c.put_last.result
     (puts-then c.put_name.new.out.items c.put_cells.new.out.items middle c.in_ok-put_cells.ensures _ end c.put_last.result last))

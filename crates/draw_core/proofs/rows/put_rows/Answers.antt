@@ -13,8 +13,8 @@ use Rattle.draw_core.proofs.rows.put_rows.Goals as goal
 
 pub loop-row-init : goal.loop-row-init
 loop-row-init c = record {
-    text = sym (append-nil c.args.out.now.items);
-    generator = row-start (seeded c.args.seed) c.seeded-generator.result (length c.args.problem.now.criteria) c.seeded-generator.ensures;
+  text = sym (append-nil c.args.out.now.items);
+  generator = row-start (seeded c.args.seed) c.seeded-generator.result (length c.args.problem.now.criteria) c.seeded-generator.ensures;
 }
 
 -- no row more
@@ -40,7 +40,7 @@ returns-in_err-put_record c =
     let lt : k < c.args.rows = omega arith in
     let grades : List ℤ = c.as_slice.result.now in
     let is : grades ≡ row_grades problem words k =
-      c.as_slice.ensures.value ∙ row-drawn problem g c.loop-row.generator c.args.rows k c.draw_row.new.grades.items lt c.loop-row.invariant.generator c.in_ok-category.ensures.grades in
+    c.as_slice.ensures.value ∙ row-drawn problem g c.loop-row.generator c.args.rows k c.draw_row.new.grades.items lt c.loop-row.invariant.generator c.in_ok-category.ensures.grades in
     let sorted : c.in_ok-category.category ≡ category rule grades = c.in_ok-category.ensures.category ∙ ap (category rule) (sym c.as_slice.ensures.value) in
     puts-failed _ _ _ c.from_residual-in_err-put_record.result c.from_residual-in_err-put_record.ensures.0
     (each-cut (drawn_record problem rule words) c.args.rows k c.args.out.now.items out c.put_record.new.out.items c.loop-row.invariant.text lt
@@ -58,7 +58,7 @@ loop-row-preserved c =
     let lt : k < c.args.rows = omega arith in
     let grades : List ℤ = c.as_slice.result.now in
     let is : grades ≡ row_grades problem words k =
-      c.as_slice.ensures.value ∙ row-drawn problem g c.loop-row.generator c.args.rows k c.draw_row.new.grades.items lt c.loop-row.invariant.generator c.in_ok-category.ensures.grades in
+    c.as_slice.ensures.value ∙ row-drawn problem g c.loop-row.generator c.args.rows k c.draw_row.new.grades.items lt c.loop-row.invariant.generator c.in_ok-category.ensures.grades in
     let sorted : c.in_ok-category.category ≡ category rule grades = c.in_ok-category.ensures.category ∙ ap (category rule) (sym c.as_slice.ensures.value) in
     record {
       text = each-more (drawn_record problem rule words) k c.args.out.now.items out c.put_record.new.out.items c.loop-row.invariant.text

@@ -1,0 +1,400 @@
+//! What no clause says: that draws succeed with ample memory, and outside values of the words and of what they draw.
+ghost use Rattle.std.specs.Prelude.{IfSome, ◌≤◌};
+ghost use Rattle.model_core.specs.Model.{Belongs};
+
+use crate::words::draw_words;
+use crate::{draw_examples, draw_model, draw_problem, draw_table};
+use model_core::{Coalitions, Model, read_model};
+use problem_core::{Problem, Scale, read_problem};
+use rand_core::utils::NextWord;
+use rand_pcg::Pcg32;
+use std::alloc::Global;
+use std::test::Fail;
+use yaml_core::{MOST_BYTES, Node, read_yaml};
+
+/// A scale of names that need quotes, a falling scale with a negative bound, a scale of one number.
+const QUOTED: &str = "kind: classification-problem
+format_version: 1
+criteria:
+  - name: \"Mark, \\\"old\\\"\"
+    value_type: enumerated
+    ordered_values: [\"a, b\", \"c \\\"d\\\"\", e]
+  - name: Loss
+    value_type: real
+    preference_direction: decreasing
+    min_value: -1.5
+    max_value: 2.5
+  - name: Speed
+    value_type: integer
+    preference_direction: increasing
+    min_value: 5
+    max_value: 5
+ordered_categories:
+  - name: Bad
+  - name: So, so
+  - name: Good
+";
+
+/// Scales between the least and the greatest number that there is.
+const WIDE: &str = "kind: classification-problem
+format_version: 1
+criteria:
+  - name: Wide
+    value_type: real
+    preference_direction: increasing
+  - name: Long
+    value_type: integer
+    preference_direction: decreasing
+ordered_categories:
+  - name: A
+  - name: B
+";
+
+/// One criterion of one number, two categories.
+const FIVE: &str = "kind: classification-problem
+format_version: 1
+criteria:
+  - name: Speed
+    value_type: integer
+    preference_direction: increasing
+    min_value: 5
+    max_value: 5
+ordered_categories:
+  - name: Bad
+  - name: Good
+";
+
+/// A model that asks for 5.
+const AT_LEAST_FIVE: &str = "kind: ncs-classification-model
+format_version: 1
+accepted_values:
+  - kind: thresholds
+    thresholds: [5]
+sufficient_coalitions:
+  - kind: roots
+    upset_roots: [[0]]
+";
+
+/// The tree of a text.
+fn tree_of(alloc: Global, text: &str) -> Option<Node> {
+    if text.len() > MOST_BYTES {
+        return None;
+    }
+    read_yaml(alloc, text.as_bytes()).ok()
+}
+
+/// The problem of a text.
+fn problem_of(alloc: Global, text: &str) -> Option<Problem> {
+    read_problem(alloc, &tree_of(alloc, text)?).ok()
+}
+
+/// The model of a text.
+fn model_of(alloc: Global, problem: &Problem, text: &str) -> Option<Model>
+    ensures { IfSome result (λ m. Belongs problem.now m) }
+{
+    read_model(alloc, problem, &tree_of(alloc, text)?).ok()
+}
+
+/// A problem of a seed, a model of the next one, and a table of rows of the one after it.
+fn drawn_text(
+    alloc: Global,
+    criteria: u32,
+    categories: u32,
+    rows: u32,
+    seed: u64,
+) -> Option<Vec<u8>>
+    requires criteria { 1 ≤ criteria }
+    requires few { criteria ≤ 16 }
+    requires categories { 2 ≤ categories }
+    requires most { categories ≤ 10 }
+    requires rows { rows ≤ 100 }
+    requires seed { seed ≤ 1000000 }
+{
+    let problem = draw_problem(alloc, criteria, categories, seed).ok()?;
+    let model = draw_model(alloc, &problem, seed + 1).ok()?;
+    let mut text = Vec::new(alloc);
+    draw_table(alloc, &problem, &model, rows, seed + 2, &mut text).ok()?;
+    Some(text)
+}
+
+/// The table of rows that a seed draws for a problem, and for a model of another seed.
+fn table_text(
+    alloc: Global,
+    problem: &str,
+    model_seed: u64,
+    rows: u32,
+    seed: u64,
+) -> Option<Vec<u8>>
+    requires { rows ≤ 100 }
+{
+    let problem = problem_of(alloc, problem)?;
+    let model = draw_model(alloc, &problem, model_seed).ok()?;
+    let mut text = Vec::new(alloc);
+    draw_table(alloc, &problem, &model, rows, seed, &mut text).ok()?;
+    Some(text)
+}
+
+#[test]
+fn the_generator_gives_the_published_words(rt: HostRuntime) -> Result<(), Fail> {
+    // The first words of the demonstration program of PCG, with seed 42 and stream 54.
+    let mut generator = Pcg32::new(42, 54);
+    for word in [
+        0xa15c02b7u32,
+        0x7b47f409,
+        0xba1d3330,
+        0x83d2f293,
+        0xbfa4784b,
+        0xcbed606e,
+    ] {
+        assert_eq!(rt; generator.next_word(), word);
+    }
+    Ok(())
+}
+
+#[test]
+fn seeds_have_their_words(rt: HostRuntime) -> Result<(), Fail> {
+    let words = [
+        (0u64, [257813417u32, 407017181, 896943092, 4175973425]),
+        (1, [3380776849, 361947764, 3223725655, 2781001427]),
+        (42, [1307692281, 3850602322, 1491967504, 4091771729]),
+        (u64::MAX, [3795398737, 3572406950, 1916827069, 3687248187]),
+    ];
+    for (seed, want) in words {
+        let drawn = draw_words(rt.alloc(), seed, 4)?;
+        assert!(rt; drawn.as_slice() == &want[..], "at {seed}");
+    }
+    Ok(())
+}
+
+/// Which of the four scales that are drawn a scale is.
+#[derive(Clone, Copy, Debug, PartialEq, Eq)]
+enum Kind {
+    Rising,
+    Falling,
+    Whole,
+    Names,
+}
+
+/// The kind of a scale.
+fn kind_of(scale: &Scale) -> Kind {
+    match scale {
+        Scale::Rising(bounds) => {
+            if bounds.whole {
+                Kind::Whole
+            } else {
+                Kind::Rising
+            }
+        }
+        Scale::Falling(_) => Kind::Falling,
+        Scale::Named(_) => Kind::Names,
+    }
+}
+
+#[test]
+fn a_problem_has_a_scale_for_each_word(rt: HostRuntime) -> Result<(), Fail> {
+    let problem = draw_problem(rt.alloc(), 16, 10, 2024)?;
+    let kinds = [
+        Kind::Rising,
+        Kind::Falling,
+        Kind::Whole,
+        Kind::Names,
+        Kind::Names,
+        Kind::Rising,
+        Kind::Falling,
+        Kind::Whole,
+        Kind::Whole,
+        Kind::Whole,
+        Kind::Falling,
+        Kind::Whole,
+        Kind::Rising,
+        Kind::Rising,
+        Kind::Names,
+        Kind::Names,
+    ];
+    for i in 0..16 {
+        assert_eq!(rt;
+            kind_of(&problem.criterion(i).scale),
+            kinds[i as usize],
+            "at {i}"
+        );
+    }
+    assert_eq!(rt; problem.criterion(15).name.as_str(), "Criterion 16");
+    assert_eq!(rt; problem.categories_count(), 10);
+    assert_eq!(rt; problem.category(9), "Category 10");
+    Ok(())
+}
+
+#[test]
+fn a_model_has_thresholds_in_order_and_weights_rounded_up(rt: HostRuntime) -> Result<(), Fail> {
+    let problem = draw_problem(rt.alloc(), 4, 3, 41)?;
+    let model = draw_model(rt.alloc(), &problem, 42)?;
+    let thresholds = [
+        [567000000000000000i128, 896000000000000000],
+        [2000000000000000000, 4000000000000000000],
+        [476000000000000000, 810000000000000000],
+        [432000000000000000, 424000000000000000],
+    ];
+    for i in 0..4 {
+        for h in 1..3 {
+            let threshold = model.threshold(i, h).ok_or("null")?;
+            assert_eq!(rt;
+                threshold.value(),
+                thresholds[i as usize][h as usize - 1],
+                "at {i}, {h}"
+            );
+        }
+    }
+    let weights = [
+        20592020592020593i128,
+        289575289575289576,
+        994851994851994852,
+        425997425997425998,
+    ];
+    for h in 1..3 {
+        let Coalitions::Weights(drawn) = model.coalitions(h) else {
+            return Err("no weights".into());
+        };
+        assert_eq!(rt; drawn.len(), 4);
+        for (i, weight) in weights.iter().enumerate() {
+            assert_eq!(rt; drawn.get(i as u32).units(), *weight, "at {i}");
+        }
+    }
+    Ok(())
+}
+
+#[test]
+fn tables_have_their_rows(rt: HostRuntime) -> Result<(), Fail> {
+    let text = drawn_text(rt.alloc(), 3, 2, 2, 1).ok_or("out of memory")?;
+    let want = "name,Criterion 1,Criterion 2,Criterion 3,category\n\
+        Alternative 1,0.138,0.455,v1,Category 2\n\
+        Alternative 2,0.48,0.94,v4,Category 2\n";
+    assert!(rt; text.as_slice() == want.as_bytes());
+    let text = drawn_text(rt.alloc(), 4, 3, 6, 41).ok_or("out of memory")?;
+    let want = "name,Criterion 1,Criterion 2,Criterion 3,Criterion 4,category\n\
+        Alternative 1,0.521,91,0.889,0.856,Category 3\n\
+        Alternative 2,0.095,94,0.039,0.492,Category 1\n\
+        Alternative 3,0.411,94,0.22,0.135,Category 1\n\
+        Alternative 4,0.527,3,0.798,0.387,Category 2\n\
+        Alternative 5,0.78,44,0.997,0.404,Category 3\n\
+        Alternative 6,0.729,37,0.844,0.345,Category 3\n";
+    assert!(rt; text.as_slice() == want.as_bytes());
+    Ok(())
+}
+
+#[test]
+fn a_table_of_no_rows_is_its_header(rt: HostRuntime) -> Result<(), Fail> {
+    let text = drawn_text(rt.alloc(), 2, 2, 0, 5).ok_or("out of memory")?;
+    let want = "name,Criterion 1,Criterion 2,category\n";
+    assert!(rt; text.as_slice() == want.as_bytes());
+    Ok(())
+}
+
+#[test]
+fn names_are_quoted(rt: HostRuntime) -> Result<(), Fail> {
+    let text = table_text(rt.alloc(), QUOTED, 7, 5, 9).ok_or("out of memory")?;
+    let want = "name,\"Mark, \"\"old\"\"\",Loss,Speed,category\n\
+        Alternative 1,e,0.724,5,Good\n\
+        Alternative 2,\"a, b\",-0.872,5,Good\n\
+        Alternative 3,\"c \"\"d\"\"\",1.192,5,Good\n\
+        Alternative 4,e,0.6,5,Good\n\
+        Alternative 5,\"a, b\",-1,5,Good\n";
+    assert!(rt; text.as_slice() == want.as_bytes());
+    Ok(())
+}
+
+#[test]
+fn the_widest_scales_are_drawn_from(rt: HostRuntime) -> Result<(), Fail> {
+    let text = table_text(rt.alloc(), WIDE, 3, 3, 4).ok_or("out of memory")?;
+    let want = "name,Wide,Long,category\n\
+        Alternative 1,22000000000000000,440000000000000000,A\n\
+        Alternative 2,988000000000000000,208000000000000000,A\n\
+        Alternative 3,-168000000000000000,844000000000000000,A\n";
+    assert!(rt; text.as_slice() == want.as_bytes());
+    Ok(())
+}
+
+#[test]
+fn a_scale_of_one_number_has_one_cell(rt: HostRuntime) -> Result<(), Fail> {
+    let problem = problem_of(rt.alloc(), FIVE).ok_or("refused")?;
+    let model = model_of(rt.alloc(), &problem, AT_LEAST_FIVE).ok_or("refused")?;
+    let mut text = Vec::new(rt.alloc());
+    draw_table(rt.alloc(), &problem, &model, 2, 9, &mut text)?;
+    let want = "name,Speed,category\nAlternative 1,5,Good\nAlternative 2,5,Good\n";
+    assert!(rt; text.as_slice() == want.as_bytes());
+    Ok(())
+}
+
+#[test]
+fn examples_are_the_rows_of_the_table(rt: HostRuntime) -> Result<(), Fail> {
+    let problem = draw_problem(rt.alloc(), 4, 3, 41)?;
+    let model = draw_model(rt.alloc(), &problem, 42)?;
+    let examples = draw_examples(rt.alloc(), &problem, &model, 6, 43)?;
+    let rows = [
+        (
+            [
+                521000000000000000i128,
+                91000000000000000000,
+                889000000000000000,
+                856000000000000000,
+            ],
+            2u32,
+        ),
+        (
+            [
+                95000000000000000,
+                94000000000000000000,
+                39000000000000000,
+                492000000000000000,
+            ],
+            0,
+        ),
+        (
+            [
+                411000000000000000,
+                94000000000000000000,
+                220000000000000000,
+                135000000000000000,
+            ],
+            0,
+        ),
+        (
+            [
+                527000000000000000,
+                3000000000000000000,
+                798000000000000000,
+                387000000000000000,
+            ],
+            1,
+        ),
+        (
+            [
+                780000000000000000,
+                44000000000000000000,
+                997000000000000000,
+                404000000000000000,
+            ],
+            2,
+        ),
+        (
+            [
+                729000000000000000,
+                37000000000000000000,
+                844000000000000000,
+                345000000000000000,
+            ],
+            2,
+        ),
+    ];
+    assert_eq!(rt; examples.count(), 6);
+    for (row, (grades, category)) in rows.iter().enumerate() {
+        for (i, grade) in grades.iter().enumerate() {
+            assert_eq!(rt;
+                examples.grades(row as u32)[i].value(),
+                *grade,
+                "at {row}, {i}"
+            );
+        }
+        assert_eq!(rt; examples.category(row as u32), *category, "at {row}");
+    }
+    Ok(())
+}
