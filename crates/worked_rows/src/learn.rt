@@ -1,31 +1,13 @@
 //! Worked rows of `learn`.
-use crate::session::{MODEL, PROBLEM, PROBLEM_OF_THREE, runs, shelf, words};
-use edge_core::{MemShelf, MemSink};
+use crate::session::{
+    MODEL, PROBLEM, PROBLEM_OF_THREE, PROBLEM_OF_TWO, output, runs, shelf, words,
+};
+use edge_core::MemSink;
 use lincs_top::{Status, run};
 use std::alloc::{AllocError, Global};
-use std::process::Abort;
 use std::test::Fail;
 
 const ENCODINGS: [&str; 2] = ["separation", "coalitions"];
-
-/// Two criteria on which 0 and 1 are grades, and two categories.
-const PROBLEM_OF_TWO: &str = "kind: classification-problem
-format_version: 1
-criteria:
-  - name: U
-    value_type: integer
-    preference_direction: increasing
-    min_value: 0
-    max_value: 1
-  - name: V
-    value_type: integer
-    preference_direction: increasing
-    min_value: 0
-    max_value: 1
-ordered_categories:
-  - name: Bad
-  - name: Good
-";
 
 /// The row that is at least as good on each criterion is in the worse category.
 const BETTER_IS_BAD: &str = "name,U,V,category\ng,1,0,Good\nb,1,1,Bad\n";
@@ -80,22 +62,6 @@ fn the_one_model_of_a_table_is_learned_by_either_encoding(rt: HostRuntime) -> Re
     Ok(())
 }
 
-/// What a run writes to its output.
-fn output(
-    rt: &impl Abort,
-    alloc: Global,
-    line: &str,
-    shelf: &mut MemShelf,
-    status: Status,
-) -> Result<MemSink, Fail> {
-    let mut out = MemSink::new(alloc);
-    let mut err = MemSink::new(alloc);
-    let ended = run(alloc, &words(alloc, line)?, shelf, &mut out, &mut err);
-    assert_eq!(rt; ended, status, "{line}");
-    assert_eq!(rt; err.bytes(), "".as_bytes(), "{line}");
-    Ok(out)
-}
-
 #[test]
 fn a_learned_model_restores_every_example(rt: HostRuntime) -> Result<(), Fail> {
     let table = "name,U,V,category\na,0,0,Bad\nb,1,0,Bad\nc,1,1,Good\nd,0,1,Good\n";
@@ -107,7 +73,13 @@ fn a_learned_model_restores_every_example(rt: HostRuntime) -> Result<(), Fail> {
         let model = output(&rt, rt.alloc(), line.as_str(), &mut shelf, Status::Done)?;
         shelf.add("L.yml", model.bytes())?;
         let line = "classification-accuracy P.yml L.yml A.csv";
-        runs(&rt, rt.alloc(), line, &mut shelf, (Status::Done, "4/4\n", ""))?;
+        runs(
+            &rt,
+            rt.alloc(),
+            line,
+            &mut shelf,
+            (Status::Done, "4/4\n", ""),
+        )?;
     }
     Ok(())
 }
@@ -122,7 +94,13 @@ fn a_learned_refutation_is_accepted(rt: HostRuntime) -> Result<(), Fail> {
         let log = output(&rt, rt.alloc(), line.as_str(), &mut shelf, Status::No)?;
         shelf.add("R.txt", log.bytes())?;
         let line = "check-refutation P.yml A.csv R.txt";
-        runs(&rt, rt.alloc(), line, &mut shelf, (Status::Done, "accepted\n", ""))?;
+        runs(
+            &rt,
+            rt.alloc(),
+            line,
+            &mut shelf,
+            (Status::Done, "accepted\n", ""),
+        )?;
     }
     Ok(())
 }
@@ -147,7 +125,10 @@ fn the_lemmas_at_the_limit_are_written(rt: HostRuntime) -> Result<(), Fail> {
 
 #[test]
 fn coalitions_of_13_criteria_are_too_wide(rt: HostRuntime) -> Result<(), Fail> {
-    let mut problem = String::from_str(rt.alloc(), "kind: classification-problem\nformat_version: 1\ncriteria:\n")?;
+    let mut problem = String::from_str(
+        rt.alloc(),
+        "kind: classification-problem\nformat_version: 1\ncriteria:\n",
+    )?;
     let mut table = String::from_str(rt.alloc(), "name")?;
     for i in 0..13 {
         let criterion = format!(in rt.alloc();
@@ -167,7 +148,13 @@ fn coalitions_of_13_criteria_are_too_wide(rt: HostRuntime) -> Result<(), Fail> {
     let mut shelf = shelf(rt.alloc(), problem.as_str(), MODEL, table.as_str())?;
     let line = "learn classification-model P.yml A.csv --encoding coalitions";
     let wide = "lincs: too wide: 13 criteria\n";
-    runs(&rt, rt.alloc(), line, &mut shelf, (Status::TooLarge, "", wide))?;
+    runs(
+        &rt,
+        rt.alloc(),
+        line,
+        &mut shelf,
+        (Status::TooLarge, "", wide),
+    )?;
     let line = "learn classification-model P.yml A.csv --encoding separation";
     output(&rt, rt.alloc(), line, &mut shelf, Status::Done)?;
     Ok(())

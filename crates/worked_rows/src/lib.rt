@@ -12,6 +12,8 @@ mod faults;
 #[cfg(test)]
 mod formulas;
 #[cfg(test)]
+mod generate;
+#[cfg(test)]
 mod learn;
 #[cfg(test)]
 mod limits;
@@ -19,5 +21,7 @@ mod limits;
 mod refused;
 #[cfg(test)]
 mod session;
+#[cfg(test)]
+mod sweep;
 #[cfg(test)]
 mod usage;

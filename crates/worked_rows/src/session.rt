@@ -34,6 +34,25 @@ ordered_categories:
   - name: High
 ";
 
+/// Two criteria on which 0 and 1 are grades, and two categories.
+pub const PROBLEM_OF_TWO: &str = "kind: classification-problem
+format_version: 1
+criteria:
+  - name: U
+    value_type: integer
+    preference_direction: increasing
+    min_value: 0
+    max_value: 1
+  - name: V
+    value_type: integer
+    preference_direction: increasing
+    min_value: 0
+    max_value: 1
+ordered_categories:
+  - name: Bad
+  - name: Good
+";
+
 /// From 7 on a row is good.
 pub const MODEL: &str = "kind: ncs-classification-model
 format_version: 1
@@ -110,6 +129,22 @@ pub fn runs(
     assert_eq!(rt; out.bytes(), want.1.as_bytes(), "{what}");
     assert_eq!(rt; status, want.0, "{what}");
     Ok(())
+}
+
+/// Runs a command line that has to end with this status and no error line, and returns what it writes.
+pub fn output(
+    rt: &impl Abort,
+    alloc: Global,
+    line: &str,
+    shelf: &mut MemShelf,
+    status: Status,
+) -> Result<MemSink, Fail> {
+    let mut out = MemSink::new(alloc);
+    let mut err = MemSink::new(alloc);
+    let ended = run(alloc, &words(alloc, line)?, shelf, &mut out, &mut err);
+    assert_eq!(rt; ended, status, "{line}");
+    assert_eq!(rt; err.bytes(), "".as_bytes(), "{line}");
+    Ok(out)
 }
 
 /// Runs `classify` over the three files.

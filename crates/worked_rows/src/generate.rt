@@ -1,0 +1,84 @@
+//! Worked rows of `generate`.
+use crate::session::{output, runs};
+use edge_core::MemShelf;
+use lincs_top::Status;
+use std::test::Fail;
+
+/// One criterion that takes one value only.
+const PROBLEM_OF_ONE_VALUE: &str = "kind: classification-problem
+format_version: 1
+criteria:
+  - name: Speed
+    value_type: integer
+    preference_direction: increasing
+    min_value: 5
+    max_value: 5
+ordered_categories:
+  - name: Bad
+  - name: Good
+";
+
+const MODEL_OF_ONE_VALUE: &str = "kind: ncs-classification-model
+format_version: 1
+accepted_values:
+  - kind: thresholds
+    thresholds: [5]
+sufficient_coalitions:
+  - &coalitions
+    kind: roots
+    upset_roots:
+      - [0]
+";
+
+#[test]
+fn drawn_rows_of_a_single_value_are_known_for_any_seed(rt: HostRuntime) -> Result<(), Fail> {
+    for seed in ["0", "9", "18446744073709551615"] {
+        let mut shelf = MemShelf::new(rt.alloc());
+        shelf.add("P.yml", PROBLEM_OF_ONE_VALUE.as_bytes())?;
+        shelf.add("M.yml", MODEL_OF_ONE_VALUE.as_bytes())?;
+        let line = format!(in rt.alloc();
+            "generate classified-alternatives P.yml M.yml 2 --random-seed {seed}"
+        )?;
+        let table = "name,Speed,category\nAlternative 1,5,Good\nAlternative 2,5,Good\n";
+        runs(
+            &rt,
+            rt.alloc(),
+            line.as_str(),
+            &mut shelf,
+            (Status::Done, table, ""),
+        )?;
+    }
+    Ok(())
+}
+
+// Each text that is drawn is read by the next command.
+#[test]
+fn a_drawn_model_restores_the_table_that_it_sorts(rt: HostRuntime) -> Result<(), Fail> {
+    let mut shelf = MemShelf::new(rt.alloc());
+    let line = "generate classification-problem 16 10 --random-seed 7";
+    let problem = output(&rt, rt.alloc(), line, &mut shelf, Status::Done)?;
+    shelf.add("P.yml", problem.bytes())?;
+    let line = "generate classification-model P.yml --random-seed 8";
+    let model = output(&rt, rt.alloc(), line, &mut shelf, Status::Done)?;
+    shelf.add("M.yml", model.bytes())?;
+    let line = "generate classified-alternatives P.yml M.yml 100 --random-seed 9";
+    let table = output(&rt, rt.alloc(), line, &mut shelf, Status::Done)?;
+    shelf.add("A.csv", table.bytes())?;
+    let line = "classification-accuracy P.yml M.yml A.csv";
+    runs(
+        &rt,
+        rt.alloc(),
+        line,
+        &mut shelf,
+        (Status::Done, "100/100\n", ""),
+    )?;
+    let sorted = output(
+        &rt,
+        rt.alloc(),
+        "classify P.yml M.yml A.csv",
+        &mut shelf,
+        Status::Done,
+    )?;
+    assert!(rt; sorted.bytes() == table.bytes(), "sorting changes nothing");
+    Ok(())
+}

@@ -1,0 +1,222 @@
+//! Every command, with each call of the outside failing in turn.
+use crate::session::{MODEL, PROBLEM, PROBLEM_OF_TWO, TABLE, runs, words};
+use edge_core::{MemShelf, MemSink};
+use lincs_top::{Status, run};
+use std::alloc::{AllocError, Global};
+use std::process::Abort;
+use std::test::Fail;
+
+/// A command line, the names of its files in the order in which they are read, and the status that it ends with.
+type Case<'a> = (&'a str, &'a str, Status);
+
+const CASES: [Case<'_>; 18] = [
+    (
+        "classify P.yml M.yml A.csv",
+        "P.yml M.yml A.csv",
+        Status::Done,
+    ),
+    (
+        "classify P.yml M.yml B.csv",
+        "P.yml M.yml B.csv",
+        Status::Refused,
+    ),
+    (
+        "classification-accuracy P.yml M.yml E.csv",
+        "P.yml M.yml E.csv",
+        Status::Done,
+    ),
+    (
+        "learn classification-model P.yml E.csv",
+        "P.yml E.csv",
+        Status::Done,
+    ),
+    (
+        "learn classification-model P.yml W.csv",
+        "P.yml W.csv",
+        Status::No,
+    ),
+    (
+        "learn classification-model P.yml E.csv --encoding coalitions",
+        "P.yml E.csv",
+        Status::Done,
+    ),
+    (
+        "learn classification-model Q.yml X.csv --max-conflicts 1",
+        "Q.yml X.csv",
+        Status::Limit,
+    ),
+    (
+        "encode P.yml E.csv --encoding separation",
+        "P.yml E.csv",
+        Status::Done,
+    ),
+    (
+        "encode P.yml E.csv --encoding coalitions",
+        "P.yml E.csv",
+        Status::Done,
+    ),
+    (
+        "check-refutation P.yml W.csv R.txt",
+        "P.yml W.csv R.txt",
+        Status::Done,
+    ),
+    (
+        "check-refutation P.yml W.csv S.txt",
+        "P.yml W.csv S.txt",
+        Status::No,
+    ),
+    (
+        "check-refutation P.yml W.csv E.csv",
+        "P.yml W.csv E.csv",
+        Status::Refused,
+    ),
+    ("describe problem P.yml", "P.yml", Status::Done),
+    ("describe model P.yml M.yml", "P.yml M.yml", Status::Done),
+    (
+        "describe alternatives P.yml E.csv",
+        "P.yml E.csv",
+        Status::Done,
+    ),
+    (
+        "generate classification-problem 2 3 --random-seed 4",
+        "",
+        Status::Done,
+    ),
+    (
+        "generate classification-model P.yml --random-seed 4",
+        "P.yml",
+        Status::Done,
+    ),
+    (
+        "generate classified-alternatives P.yml M.yml 5 --random-seed 4",
+        "P.yml M.yml",
+        Status::Done,
+    ),
+];
+
+/// The files of all cases.
+fn files(alloc: Global) -> Result<MemShelf, AllocError> {
+    let mut shelf = MemShelf::new(alloc);
+    for (name, text) in [
+        ("P.yml", PROBLEM),
+        ("Q.yml", PROBLEM_OF_TWO),
+        ("M.yml", MODEL),
+        ("A.csv", TABLE),
+        ("B.csv", "name,Speed\na,3\nb,11\n"),
+        ("E.csv", "name,Speed,category\na,3,Bad\nb,7,Good\n"),
+        ("W.csv", "name,Speed,category\ng,3,Good\nb,7,Bad\n"),
+        ("X.csv", "name,U,V,category\ng,1,0,Good\nb,1,1,Bad\n"),
+        ("R.txt", "lincs-refutation 1 separation\n5 0 4 2 1 3 0\n"),
+        ("S.txt", "lincs-refutation 1 separation\n"),
+    ] {
+        shelf.add(name, text.as_bytes())?;
+    }
+    Ok(shelf)
+}
+
+/// What a run ends with.
+#[derive(Drop)]
+struct Ended {
+    status: Status,
+    out: MemSink,
+    err: MemSink,
+}
+
+/// Runs a command line over the files of all cases. Write `failing_out` of the output fails, and write
+/// `failing_err` of the error output; 0 stands for none.
+fn end_of(
+    alloc: Global,
+    line: &str,
+    failing_out: u64,
+    failing_err: u64,
+) -> Result<Ended, AllocError> {
+    let mut shelf = files(alloc)?;
+    let mut out = MemSink::new(alloc);
+    let mut err = MemSink::new(alloc);
+    if failing_out > 0 {
+        out.fail_at(failing_out)?;
+    }
+    if failing_err > 0 {
+        err.fail_at(failing_err)?;
+    }
+    let words = words(alloc, line)?;
+    let status = run(alloc, &words, &mut shelf, &mut out, &mut err);
+    Ok(Ended { status, out, err })
+}
+
+// Each file takes an open, a read with bytes and a read at the end.
+#[test]
+fn each_failing_read_of_each_command_names_its_file(rt: HostRuntime) -> Result<(), Fail> {
+    for (line, names, status) in CASES {
+        let mut call = 0u64;
+        for name in names.split(' ') {
+            if name.is_empty() {
+                continue;
+            }
+            let want = format!(in rt.alloc(); "lincs: cannot read {name}\n")?;
+            for _ in 0..3 {
+                call += 1;
+                let mut shelf = files(rt.alloc())?;
+                shelf.fail_at(call)?;
+                let want = (Status::ReadFault, "", want.as_str());
+                runs(&rt, rt.alloc(), line, &mut shelf, want)?;
+            }
+        }
+        assert_eq!(rt; end_of(rt.alloc(), line, 0, 0)?.status, status, "{line}");
+    }
+    Ok(())
+}
+
+/// Fails each write of a command's output in turn, until a run meets no failure.
+fn fail_each_write(rt: &impl Abort, alloc: Global, line: &str, status: Status) -> Result<(), Fail> {
+    let whole = end_of(alloc, line, 0, 0)?;
+    for call in 1..100u64 {
+        let cut = end_of(alloc, line, call, 0)?;
+        if cut.status == status {
+            assert!(rt; cut.out.bytes() == whole.out.bytes(), "{line}");
+            return Ok(());
+        }
+        assert_eq!(rt; cut.status, Status::WriteFault, "{line}");
+        assert!(rt; whole.out.bytes().starts_with(cut.out.bytes()), "{line}");
+        assert!(rt; cut.out.bytes().len() < whole.out.bytes().len(), "{line}");
+        assert_eq!(rt;
+            cut.err.bytes(),
+            "lincs: cannot write\n".as_bytes(),
+            "{line}"
+        );
+    }
+    assert!(rt; false, "{line} writes too often");
+    Ok(())
+}
+
+#[test]
+fn each_failing_write_of_each_command_leaves_a_prefix(rt: HostRuntime) -> Result<(), Fail> {
+    for (line, _, status) in CASES {
+        fail_each_write(&rt, rt.alloc(), line, status)?;
+    }
+    Ok(())
+}
+
+/// Fails each write of a command's error output in turn, until a run meets no failure.
+fn fail_each_word(rt: &impl Abort, alloc: Global, line: &str, status: Status) -> Result<(), Fail> {
+    let whole = end_of(alloc, line, 0, 0)?;
+    for call in 1..100u64 {
+        let cut = end_of(alloc, line, 0, call)?;
+        assert_eq!(rt; cut.status, status, "{line}");
+        assert!(rt; cut.out.bytes() == whole.out.bytes(), "{line}");
+        assert!(rt; whole.err.bytes().starts_with(cut.err.bytes()), "{line}");
+        if cut.err.bytes().len() == whole.err.bytes().len() {
+            return Ok(());
+        }
+    }
+    assert!(rt; false, "{line} says too much");
+    Ok(())
+}
+
+#[test]
+fn a_failing_error_output_changes_nothing_else_in_any_command(rt: HostRuntime) -> Result<(), Fail> {
+    for (line, _, status) in CASES {
+        fail_each_word(&rt, rt.alloc(), line, status)?;
+    }
+    Ok(())
+}
