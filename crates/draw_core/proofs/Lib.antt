@@ -7,3 +7,4 @@ pub mod NameFacts
 pub mod OrderFacts
 pub mod ModelFacts
 pub mod RowFacts
+pub mod FamilyFacts

@@ -1,26 +1,24 @@
 -- A drawn model belongs to its problem.
-use Rattle.std.proofs.Common.{◌≡◌, ℕ, zero, suc, ◌+◌, ◌-◌, ◌*◌, ◌/◌, ◌%◌, ◌^◌, ◌<◌, ◌≤◌, true, false, ℤ, pos, List, [], ◌∷◌, ◌++◌, length, map, get_or, take, refl, sym, ap, ◌∙◌, subst, arith, add-one}
-use Rattle.std.specs.Prelude.{Some, int_lt, replicate, slice_index_or}
+use Rattle.std.proofs.Common.{◌≡◌, ℕ, zero, suc, ◌+◌, ◌-◌, ◌*◌, ◌/◌, ◌%◌, ◌^◌, ◌<◌, ◌≤◌, true, false, ℤ, pos, List, [], ◌∷◌, length, get_or, sym, ap, ◌∙◌, subst, arith}
+use Rattle.std.specs.Prelude.{int_lt, replicate, slice_index_or}
 use Rattle.std.specs.List.{All, AllZip}
 use Rattle.std.proofs.Math.Nat.{div-le_self, mod-lt}
 use Rattle.std.proofs.lemmas.Bool.{le-ltb}
-use Rattle.std.proofs.lemmas.List.{length-map, length-replicate, take_more}
+use Rattle.std.proofs.lemmas.List.{length-map, length-replicate}
 use Rattle.std.proofs.lemmas.List.Elements.{All-cons, All-nil, All-replicate}
-use Rattle.std.proofs.lemmas.Slice.Zip.{all_zipped_more}
 use Rattle.problem_core.specs.Grade.{direction_of}
 use Rattle.problem_core.specs.Problem.{ProblemValue, IsProblem}
 use Rattle.problem_core.specs.declared.criterion.Criterion.{Criterion}
 use Rattle.sorting_rule.specs.Model as rule
 use Rattle.sorting_rule.specs.Preference.{are_ordered}
-use Rattle.model_core.specs.Model.{ModelValue, boundaries_of, profile_of, profiles_of, rule_of, AreCoalitions, Belongs, IsThreshold, IsWeight}
+use Rattle.model_core.specs.Model.{ModelValue, boundaries_of, profile_of, profiles_of, AreCoalitions, Belongs, IsThreshold, IsWeight}
 use Rattle.model_core.specs.declared.model.Coalitions.{Coalitions}
 use Rattle.model_core.specs.declared.model.Coalitions.TheVariants.{Weights}
 use Rattle.model_core.specs.declared.model.Profile.{Profile}
 use Rattle.encoding_rules.specs.Each.{listed, total}
 use Rattle.encoding_rules.proofs.EachFacts.{length-listed, listed_all, listed_at}
-use Rattle.draw_core.specs.Choice.{chosen, no_criterion, scale_at}
-use Rattle.draw_core.specs.DrawnModel.{drawn_choice, drawn_choices, drawn_limit, drawn_model, drawn_profile, drawn_share, drawn_weight, drawn_weights, model_words, weight_units}
-use Rattle.draw_core.specs.Words.{number_at}
+use Rattle.draw_core.specs.Choice.{scale_at}
+use Rattle.draw_core.specs.DrawnModel.{drawn_choice, drawn_choices, drawn_model, drawn_profile, drawn_share, drawn_weight, drawn_weights, model_words, weight_units}
 use Rattle.draw_core.proofs.OrderFacts.{length-rising, ordered-rising}
 
 -- how many words are drawn, by the counts of the code

@@ -1,12 +1,13 @@
 -- Rows that are drawn one after the other are the rows of all words, and their texts are the table.
-use Rattle.std.proofs.Common.{◌≡◌, ℕ, zero, suc, ◌+◌, ◌*◌, ◌%◌, ◌<◌, ◌≤◌, ℤ, List, [], ◌∷◌, ◌++◌, length, get_or, slice_get, take, pos, Some, refl, sym, ap, ◌∙◌, subst, inl, inr, arith, append_assoc, add-one}
+use Rattle.std.proofs.Common.{◌≡◌, ℕ, zero, suc, ◌+◌, ◌*◌, ◌<◌, ℤ, List, [], ◌∷◌, ◌++◌, length, get_or, slice_get, take, pos, Some, refl, sym, ap, ◌∙◌, subst, inl, inr, arith, append_assoc, add-one}
 use Rattle.std.specs.Prelude.{codes, slice_index_or}
-use Rattle.std.specs.List.{All, AllZip}
+use Rattle.std.specs.List.{AllZip}
 use Rattle.std.proofs.lemmas.Bool.{cases_lt}
 use Rattle.std.proofs.lemmas.List.{append-nil, get_or_default}
 use Rattle.std.proofs.lemmas.List.Elements.{All-push}
 use Rattle.std.proofs.lemmas.Nat.{mul-add-lt}
 use Rattle.std.proofs.lemmas.Option.{get_or_from_slice_get}
+use Rattle.std.proofs.lemmas.Slice.Zip.{AllZip-long}
 use Rattle.std.proofs.Math.Nat.{add-mul, mul_comm}
 use Rattle.std.proofs.Math.Seq.{take-append-add}
 use Rattle.rand_pcg.specs.Lcg.{Lcg}
@@ -23,7 +24,7 @@ use Rattle.encoding_rules.specs.Each.{each, listed}
 use Rattle.encoding_rules.proofs.EachFacts.{length-listed, listed_all, listed_at, listed_same}
 use Rattle.draw_core.specs.Choice.{no_criterion, scale_at}
 use Rattle.draw_core.specs.DrawnProblem.{numbered}
-use Rattle.draw_core.specs.DrawnTable.{cells_of, drawn_record, fields_of, drawn_example, drawn_examples, drawn_grade, row_grade, row_grades}
+use Rattle.draw_core.specs.DrawnTable.{cells_of, drawn_record, fields_of, drawn_example, drawn_examples, drawn_grade, row_grade, row_grades, next_grades, AreGrades}
 use Rattle.draw_core.specs.Words.{after, word, words_of}
 use Rattle.draw_core.proofs.WordFacts.{after-add}
 
@@ -31,7 +32,7 @@ use Rattle.draw_core.proofs.WordFacts.{after-add}
 
 -- a row that is drawn after others
 row-later : (problem : ProblemValue) (g : Lcg) (rows row : ℕ) → row < rows
-    → listed (λ i. drawn_grade (scale_at problem.criteria i) (word (after (row * length problem.criteria) g) i)) (length problem.criteria)
+    → next_grades problem (after (row * length problem.criteria) g)
     ≡ row_grades problem (words_of g (rows * length problem.criteria)) row
 row-later problem g rows row lt =
     let n : ℕ = length problem.criteria in
@@ -48,9 +49,9 @@ row-start g now n is = let none : 0 ≡ 0 * n = omega arith in is ∙ ap (λ k. 
 
 -- the grades of the next row
 pub row-drawn : (problem : ProblemValue) (g now : Lcg) (rows row : ℕ) (grades : List ℤ) → row < rows → now ≡ after (row * length problem.criteria) g
-    → grades ≡ listed (λ i. drawn_grade (scale_at problem.criteria i) (word now i)) (length problem.criteria) → grades ≡ row_grades problem (words_of g (rows * length problem.criteria)) row
+    → grades ≡ next_grades problem now → grades ≡ row_grades problem (words_of g (rows * length problem.criteria)) row
 row-drawn problem g now rows row grades lt at is =
-    is ∙ ap (λ (h : Lcg). listed (λ i. drawn_grade (scale_at problem.criteria i) (word h i)) (length problem.criteria)) at ∙ row-later problem g rows row lt
+    is ∙ ap (next_grades problem) at ∙ row-later problem g rows row lt
 
 -- the generator after one row more
 pub row-after : (g now : Lcg) (row n : ℕ) (next : Lcg) → now ≡ after (row * n) g → next ≡ after n now → next ≡ after ((row + 1) * n) g
@@ -94,10 +95,10 @@ example grades k = record { grades = grades; category = k }
 
 module _ (problem : ProblemValue) (rule : Model) where
   -- a drawn example more belongs to the problem
-  pub drawn-push : (examples : List Example) (e : Example) → BelongTo problem examples → AllZip (λ criterion grade. IsGrade criterion.scale grade) problem.criteria e.grades → e.category < length problem.categories
+  pub drawn-push : (examples : List Example) (e : Example) → BelongTo problem examples → AreGrades problem e.grades → e.category < length problem.categories
       → BelongTo problem (examples ++ e ∷ [])
   drawn-push examples e so grades category = record {
-    grades = All-push (λ (x : Example). AllZip (λ criterion grade. IsGrade criterion.scale grade) problem.criteria x.grades) examples e so.grades grades;
+    grades = All-push (λ (x : Example). AreGrades problem x.grades) examples e so.grades grades;
     categories = All-push (λ (x : Example). x.category < length problem.categories) examples e so.categories category;
   }
 
@@ -123,6 +124,10 @@ module _ (problem : ProblemValue) (rule : Model) where
       ∙ ap (λ gs. record_text (fields_of problem rule row gs)) is
 
 -- ---- cells
+
+-- there is a grade for each criterion
+pub grades-long : (problem : ProblemValue) (grades : List ℤ) → AreGrades problem grades → length grades ≡ length problem.criteria
+grades-long problem grades each = AllZip-long (λ (criterion : Criterion) (grade : ℤ). IsGrade criterion.scale grade) problem.criteria grades each
 
 -- a grade of a row is one of its criterion's scale
 pub zip-at : (R : Criterion → ℤ → Type 0) (criteria : List Criterion) (grades : List ℤ) (i : ℕ) (criterion : Criterion) (grade : ℤ)

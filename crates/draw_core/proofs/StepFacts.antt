@@ -1,5 +1,5 @@
 -- Parts of a range, in whole gaps.
-use Rattle.std.proofs.Common.{◌≡◌, ℕ, ◌+◌, ◌*◌, ◌/◌, ◌%◌, ◌<◌, ◌≤◌, sym, ap, ◌∙◌, subst, arith}
+use Rattle.std.proofs.Common.{◌≡◌, ℕ, ◌+◌, ◌*◌, ◌/◌, ◌%◌, ◌≤◌, sym, ap, ◌∙◌, subst, arith}
 use Rattle.std.proofs.Math.Nat.{mul_assoc, mul_comm, add-mul, mul-add-div, div-add-mod, mul-div-le, mul-le-mul_left, div-le_of_le-mul}
 
 -- thousandths of a number are those of its thousands and of the rest

@@ -1,9 +1,8 @@
 -- Worked draws.
-use Rattle.std.proofs.Common.{◌≡◌, ◌+◌, ◌*◌, ◌%◌, ◌^◌, ℕ, ℤ, pos, List, ◌∷◌, [], true, refl}
+use Rattle.std.proofs.Common.{◌≡◌, ◌+◌, ◌*◌, ◌%◌, ◌^◌, pos, ◌∷◌, [], true, refl}
 use Rattle.std.specs.Prelude.{codes, Some}
 use Rattle.std.specs.Fmt.{digits}
 use Rattle.problem_core.specs.Problem.{ProblemValue}
-use Rattle.problem_core.specs.declared.criterion.Scale.{Scale}
 use Rattle.problem_core.specs.declared.criterion.Scale.TheVariants.{Rising, Falling, Named}
 use Rattle.sorting_rule.specs.Coalition.{roots}
 use Rattle.sorting_rule.specs.Model as rule

@@ -3,7 +3,6 @@
 use Rattle.std.specs.Prelude.{ℕ, zero, suc, ◌+◌, ◌-◌, ◌*◌, ◌/◌, ◌^◌, if◌then◌else◌, nat_le, ℤ, pos, List, [], ◌∷◌, length, map, replicate, Some}
 use Rattle.problem_core.specs.Problem.{ProblemValue}
 use Rattle.model_core.specs.Model.{ModelValue, boundaries_of}
-use Rattle.model_core.specs.declared.model.Coalitions.{Coalitions}
 use Rattle.model_core.specs.declared.model.Coalitions.TheVariants.{Weights}
 use Rattle.model_core.specs.declared.model.Profile.{Profile}
 use Rattle.encoding_rules.specs.Each.{listed, total}

@@ -1,6 +1,8 @@
 -- The rows that words draw for a problem, and their categories by a model: a word for each row and criterion.
 use Rattle.std.specs.Prelude.{ℕ, ◌+◌, ◌*◌, ◌%◌, ℤ, pos, List, [], ◌∷◌, ◌++◌, length, slice_index_or, codes}
-use Rattle.problem_core.specs.Grade.{grade_text}
+use Rattle.std.specs.List.{AllZip}
+use Rattle.rand_pcg.specs.Lcg.{Lcg}
+use Rattle.problem_core.specs.Grade.{grade_text, IsGrade}
 use Rattle.problem_core.specs.Problem.{ProblemValue}
 use Rattle.problem_core.specs.declared.criterion.Scale.{Scale}
 use Rattle.sorting_rule.specs.Examples.{Example}
@@ -9,6 +11,7 @@ use Rattle.table_core.specs.Written.{header_fields, record_text}
 use Rattle.encoding_rules.specs.Each.{each, listed}
 use Rattle.draw_core.specs.Choice.{choice_count, chosen, scale_at}
 use Rattle.draw_core.specs.DrawnProblem.{numbered}
+use Rattle.draw_core.specs.Words.{word}
 
 -- the grade that a word draws on a scale
 abbrev pub drawn_grade : Scale → ℕ → ℤ
@@ -21,6 +24,14 @@ row_grade problem words row i = drawn_grade (scale_at problem.criteria i) (slice
 -- the grades of a row
 abbrev pub row_grades : ProblemValue → List ℕ → ℕ → List ℤ
 row_grades problem words row = listed (row_grade problem words row) (length problem.criteria)
+
+-- the grades that the next words of a generator draw
+abbrev pub next_grades : ProblemValue → Lcg → List ℤ
+next_grades problem g = listed (λ i. drawn_grade (scale_at problem.criteria i) (word g i)) (length problem.criteria)
+
+-- a grade of its scale for each criterion
+abbrev pub AreGrades : ProblemValue → List ℤ → Type 0
+AreGrades problem grades = AllZip (λ criterion grade. IsGrade criterion.scale grade) problem.criteria grades
 
 -- a row as an example: the rule gives its category
 abbrev pub drawn_example : ProblemValue → Model → List ℕ → ℕ → Example

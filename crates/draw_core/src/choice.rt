@@ -1,5 +1,6 @@
 //! The grades of a scale that can be drawn.
-ghost use Rattle.std.specs.Prelude.{◌≡◌, ◌<◌, ◌≤◌, ◌^◌, ◌*◌, ◌/◌, ◌≤ℤ◌, ◌+ℤ◌, pos, neg_ℤ, true, length, unsigned_abs, IsTrue, if◌then◌else◌};
+ghost use Rattle.std.specs.Prelude.{◌≡◌, ◌<◌, ◌≤◌, ◌^◌, ◌*◌, ◌/◌, true, length, IsTrue, if◌then◌else◌};
+ghost use Rattle.std.specs.Prelude.{◌≤ℤ◌, ◌+ℤ◌, pos, neg_ℤ, unsigned_abs};
 ghost use Rattle.problem_core.specs.Criterion.{are_bounds, is_scale};
 ghost use Rattle.problem_core.specs.Grade.{IsGrade};
 ghost use Rattle.problem_core.specs.Problem.{IsProblem};

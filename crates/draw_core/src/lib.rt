@@ -2,6 +2,7 @@
 #![tactic(auto)]
 
 mod choice;
+mod laws;
 mod model;
 mod problem;
 mod quoting;
@@ -10,6 +11,7 @@ mod rows;
 mod tests;
 mod words;
 
+pub use laws::drawn_examples_have_a_model;
 pub use model::draw_model;
 pub use problem::draw_problem;
 pub use rows::{draw_examples, draw_table};

@@ -1,5 +1,5 @@
 //! Drawn models.
-ghost use Rattle.std.specs.Prelude.{◌≡◌, ◌+◌, ◌≤◌, ◌<◌, ◌^◌, ◌*◌, Some, map, replicate, All, IfOk, IsTrue, OnOk, length};
+ghost use Rattle.std.specs.Prelude.{◌≡◌, ◌≤◌, ◌<◌, ◌^◌, Some, map, replicate, All, IfOk, IsTrue, OnOk, length};
 ghost use Rattle.std.specs.List.{AllZip};
 ghost use Rattle.problem_core.specs.Criterion.{is_scale};
 ghost use Rattle.problem_core.specs.Problem.{IsProblem};
@@ -8,7 +8,8 @@ ghost use Rattle.model_core.specs.declared.model.Coalitions.TheVariants.{Weights
 ghost use Rattle.encoding_rules.specs.Each.{listed};
 ghost use Rattle.draw_core.specs.Choice.{choice_count, chosen, scale_at};
 ghost use Rattle.draw_core.specs.Words.{seeded, words_of};
-ghost use Rattle.draw_core.specs.DrawnModel.{drawn_choices, drawn_limit, drawn_model, drawn_profile, drawn_share, drawn_weights, model_words, put_in, weight_units};
+ghost use Rattle.draw_core.specs.DrawnModel.{drawn_choices, drawn_limit, drawn_model, drawn_profile, drawn_share};
+ghost use Rattle.draw_core.specs.DrawnModel.{drawn_weights, model_words, put_in, weight_units};
 
 use crate::choice::{choice_count, chosen, number_of, scale_at};
 use crate::words::draw_words;
@@ -41,7 +42,8 @@ fn drawn_choices(
     requires words { length words.now ≡ model_words problem.now }
     requires place { i < length problem.now.criteria }
     ensures choices { IfOk result (λ choices. choices.items ≡ drawn_choices problem.now words.now i) }
-    ensures below { IfOk result (λ choices. All (λ c. c < choice_count (scale_at problem.now.criteria i)) choices.items) }
+    ensures below { IfOk result (λ choices.
+        All (λ c. c < choice_count (scale_at problem.now.criteria i)) choices.items) }
     ensures count { IfOk result (λ choices. length choices.items ≡ boundaries_of problem.now) }
 {
     let boundaries = problem.categories_count() - 1;
@@ -94,8 +96,10 @@ fn drawn_profiles(
     words: &[u32],
 ) -> Result<Vec<Profile>, AllocError>
     requires words { length words.now ≡ model_words problem.now }
-    ensures profiles { IfOk result (λ profiles. profiles.items ≡ listed (drawn_profile problem.now words.now) (length problem.now.criteria)) }
-    ensures grades { IfOk result (λ profiles. AllZip (λ criterion p. All (IsThreshold criterion.scale) p.thresholds) problem.now.criteria profiles.items) }
+    ensures profiles { IfOk result (λ profiles.
+        profiles.items ≡ listed (drawn_profile problem.now words.now) (length problem.now.criteria)) }
+    ensures grades { IfOk result (λ profiles.
+        AllZip (λ criterion p. All (IsThreshold criterion.scale) p.thresholds) problem.now.criteria profiles.items) }
 {
     let mut profiles = Vec::new(alloc);
     for i in 0..problem.criteria_count() {
@@ -165,7 +169,8 @@ fn drawn_coalitions(
     words: &[u32],
 ) -> Result<Vec<Coalitions>, AllocError>
     requires words { length words.now ≡ model_words problem.now }
-    ensures { IfOk result (λ coalitions. coalitions.items ≡ replicate (boundaries_of problem.now) (Weights (drawn_weights problem.now words.now))) }
+    ensures { IfOk result (λ coalitions.
+        coalitions.items ≡ replicate (boundaries_of problem.now) (Weights (drawn_weights problem.now words.now))) }
 {
     let mut coalitions = Vec::new(alloc);
     for _ in 0..problem.categories_count() - 1 {

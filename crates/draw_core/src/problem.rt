@@ -3,7 +3,8 @@ ghost use Rattle.std.specs.Prelude.{◌≡◌, ◌+◌, ◌≤◌, ◌<◌, true
 ghost use Rattle.problem_core.specs.Problem.{IsProblem};
 ghost use Rattle.encoding_rules.specs.Each.{listed};
 ghost use Rattle.draw_core.specs.Words.{seeded, words_of};
-ghost use Rattle.draw_core.specs.DrawnProblem.{drawn_category, drawn_criterion, drawn_problem, drawn_scale, numbered, zero_to_hundred, zero_to_one};
+ghost use Rattle.draw_core.specs.DrawnProblem.{drawn_category, drawn_criterion, drawn_problem, drawn_scale, numbered};
+ghost use Rattle.draw_core.specs.DrawnProblem.{zero_to_hundred, zero_to_one};
 ghost use Rattle.draw_core.specs.NewNames.{are_new};
 
 use crate::choice::number_of;
@@ -124,7 +125,8 @@ pub fn draw_problem(
     requires few_criteria { criteria ≤ 16 }
     requires some_categories { 2 ≤ categories }
     requires few_categories { categories ≤ 10 }
-    ensures drawn { IfOk result (λ problem. problem ≡ drawn_problem criteria categories (words_of (seeded seed) criteria)) }
+    ensures drawn { IfOk result (λ problem.
+        problem ≡ drawn_problem criteria categories (words_of (seeded seed) criteria)) }
     ensures facts { IfOk result (λ problem. IsProblem problem) }
 {
     let words = draw_words(alloc, seed, criteria)?;

@@ -1,7 +1,6 @@
 //! Fields of a record, in the form in which `table_core` writes them.
 ghost use Rattle.std.specs.Prelude.{◌≡◌, [], ◌∷◌, ◌++◌};
 ghost use Rattle.std.specs.List.{flat_map, list_any};
-ghost use Rattle.csv.specs.Machine.{line_feed};
 ghost use Rattle.lists_core.specs.Puts.{Puts};
 ghost use Rattle.table_core.specs.Written.{doubled, field_text, is_special, next_text, quoted};
 
@@ -87,7 +86,7 @@ pub fn put_next(field: &[u8], out: &mut Vec<u8>) -> Result<(), AllocError>
 
 /// Appends a comma, the last field of a record, and the end of its line.
 pub fn put_last(field: &[u8], out: &mut Vec<u8>) -> Result<(), AllocError>
-    ensures { Puts out.old.items out.new.items result (next_text field.now ++ line_feed ∷ []) }
+    ensures { Puts out.old.items out.new.items result (next_text field.now ++ 10 ∷ []) }
 {
     put_next(field, out)?;
     put_byte(b'\n', out)

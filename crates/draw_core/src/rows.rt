@@ -1,6 +1,7 @@
 //! Drawn rows: as a table, and as examples.
-ghost use Rattle.std.specs.Prelude.{◌≡◌, [], ◌∷◌, ◌++◌, ◌+◌, ◌*◌, ◌<◌, ◌≤◌, IfOk, OnOk, codes, length, slice_index_or};
-ghost use Rattle.std.specs.List.{flat_map, AllZip};
+ghost use Rattle.std.specs.Prelude.{◌≡◌, [], ◌∷◌, ◌++◌, ◌+◌, ◌*◌, ◌<◌, ◌≤◌, IfOk, OnOk, codes, length};
+ghost use Rattle.std.specs.Prelude.{slice_index_or};
+ghost use Rattle.std.specs.List.{flat_map};
 ghost use Rattle.lists_core.specs.Puts.{Puts};
 ghost use Rattle.problem_core.specs.Grade.{IsGrade, grade_text};
 ghost use Rattle.sorting_rule.specs.Examples.{Restores};
@@ -8,11 +9,11 @@ ghost use Rattle.sorting_rule.specs.Model.{category};
 ghost use Rattle.model_core.specs.Model.{rule_of, Belongs};
 ghost use Rattle.table_core.specs.Examples.{BelongTo};
 ghost use Rattle.table_core.specs.Written.{field_text, next_text, record_text};
-ghost use Rattle.encoding_rules.specs.Each.{each, listed};
-ghost use Rattle.draw_core.specs.Choice.{scale_at};
+ghost use Rattle.encoding_rules.specs.Each.{each};
 ghost use Rattle.draw_core.specs.DrawnProblem.{numbered};
-ghost use Rattle.draw_core.specs.DrawnTable.{cells_of, drawn_examples, drawn_grade, drawn_record, drawn_table};
-ghost use Rattle.draw_core.specs.Words.{after, seeded, word, words_of};
+ghost use Rattle.draw_core.specs.DrawnTable.{cells_of, next_grades, AreGrades};
+ghost use Rattle.draw_core.specs.DrawnTable.{drawn_examples, drawn_record, drawn_table};
+ghost use Rattle.draw_core.specs.Words.{after, seeded, words_of};
 
 use crate::choice::{choice_count, chosen, scale_at};
 use crate::quoting::{put_field, put_last, put_next};
@@ -31,8 +32,8 @@ fn draw_grades(
     generator: &mut Pcg32,
     grades: &mut Vec<Grade>,
 ) -> Result<(), AllocError>
-    ensures grades { OnOk result (grades.new.items ≡ listed (λ i. drawn_grade (scale_at problem.now.criteria i) (word generator.old i)) (length problem.now.criteria)) }
-    ensures belong { OnOk result (AllZip (λ criterion grade. IsGrade criterion.scale grade) problem.now.criteria grades.new.items) }
+    ensures grades { OnOk result (grades.new.items ≡ next_grades problem.now generator.old) }
+    ensures belong { OnOk result (AreGrades problem.now grades.new.items) }
     ensures after { OnOk result (generator.new ≡ after (length problem.now.criteria) generator.old) }
 {
     grades.clear();
@@ -52,8 +53,8 @@ fn draw_row(
     grades: &mut Vec<Grade>,
 ) -> Result<u32, AllocError>
     requires { Belongs problem.now model.now }
-    ensures grades { OnOk result (grades.new.items ≡ listed (λ i. drawn_grade (scale_at problem.now.criteria i) (word generator.old i)) (length problem.now.criteria)) }
-    ensures belong { OnOk result (AllZip (λ criterion grade. IsGrade criterion.scale grade) problem.now.criteria grades.new.items) }
+    ensures grades { OnOk result (grades.new.items ≡ next_grades problem.now generator.old) }
+    ensures belong { OnOk result (AreGrades problem.now grades.new.items) }
     ensures after { OnOk result (generator.new ≡ after (length problem.now.criteria) generator.old) }
     ensures category { IfOk result (λ c. c ≡ category (rule_of problem.now model.now) grades.new.items) }
     ensures below { IfOk result (λ c. c < length problem.now.categories) }
@@ -62,8 +63,8 @@ fn draw_row(
     Ok(sort(problem, model, grades.as_slice()))
 }
 
-/// The rows that a seed draws, as examples: the grades of each, and the category that the model gives them. So the model
-/// restores them. At most 100,000 rows; they are those of [`draw_table`].
+/// The rows that a seed draws, as examples: the grades of each, and the category that the model gives them. So the
+/// model restores them. At most 100,000 rows; they are those of [`draw_table`].
 pub fn draw_examples(
     alloc: Global,
     problem: &Problem,
@@ -74,7 +75,8 @@ pub fn draw_examples(
     requires belongs { Belongs problem.now model.now }
     requires few { rows ≤ 100000 }
     ensures drawn { IfOk result (λ examples. examples
-        ≡ drawn_examples problem.now (rule_of problem.now model.now) rows (words_of (seeded seed) (rows * length problem.now.criteria))) }
+        ≡ drawn_examples problem.now (rule_of problem.now model.now) rows
+        (words_of (seeded seed) (rows * length problem.now.criteria))) }
     ensures belong { IfOk result (BelongTo problem.now) }
     ensures restored { IfOk result (λ examples. Restores (rule_of problem.now model.now) examples) }
 {
@@ -130,7 +132,7 @@ fn put_cells(
     field: &mut Vec<u8>,
     out: &mut Vec<u8>,
 ) -> Result<(), AllocError>
-    requires { AllZip (λ criterion grade. IsGrade criterion.scale grade) problem.now.criteria grades.now }
+    requires { AreGrades problem.now grades.now }
     ensures { Puts out.old.items out.new.items result (flat_map next_text (cells_of problem.now grades.now)) }
 {
     for i in 0..problem.criteria_count() {
@@ -149,10 +151,11 @@ fn put_record(
     out: &mut Vec<u8>,
 ) -> Result<(), AllocError>
     requires row { row < 100000 }
-    requires grades { AllZip (λ criterion grade. IsGrade criterion.scale grade) problem.now.criteria grades.now }
+    requires grades { AreGrades problem.now grades.now }
     requires category { category < length problem.now.categories }
     ensures { Puts out.old.items out.new.items result
-        (record_text (numbered (codes "Alternative ") (row + 1) ∷ (cells_of problem.now grades.now ++ slice_index_or problem.now.categories category [] ∷ []))) }
+        (record_text (numbered (codes "Alternative ") (row + 1)
+        ∷ (cells_of problem.now grades.now ++ slice_index_or problem.now.categories category [] ∷ []))) }
 {
     put_name(row, field, out)?;
     put_cells(problem, grades, field, out)?;
@@ -171,7 +174,8 @@ fn put_rows(
     requires belongs { Belongs problem.now model.now }
     requires few { rows ≤ 100000 }
     ensures { Puts out.old.items out.new.items result
-        (each (drawn_record problem.now (rule_of problem.now model.now) (words_of (seeded seed) (rows * length problem.now.criteria))) rows) }
+        (each (drawn_record problem.now (rule_of problem.now model.now)
+        (words_of (seeded seed) (rows * length problem.now.criteria))) rows) }
 {
     let mut generator = seeded(seed);
     let mut grades = Vec::new(alloc);
@@ -183,9 +187,9 @@ fn put_rows(
     Ok(())
 }
 
-/// Appends the table that a seed draws for a problem: its header, and a row of drawn grades a line with the category that
-/// the model gives them. At most 100,000 rows; each is written before the next is drawn. Out of memory leaves a prefix of
-/// the table.
+/// Appends the table that a seed draws for a problem: its header, and rows of drawn grades with the category that the
+/// model gives them. At most 100,000 rows; each is written before the next is drawn. Out of memory leaves a prefix of
+/// the table. Equal seeds draw equal tables.
 pub fn draw_table(
     alloc: Global,
     problem: &Problem,
@@ -197,7 +201,8 @@ pub fn draw_table(
     requires belongs { Belongs problem.now model.now }
     requires few { rows ≤ 100000 }
     ensures { Puts out.old.items out.new.items result
-        (drawn_table problem.now (rule_of problem.now model.now) rows (words_of (seeded seed) (rows * length problem.now.criteria))) }
+        (drawn_table problem.now (rule_of problem.now model.now) rows
+        (words_of (seeded seed) (rows * length problem.now.criteria))) }
 {
     put_header(alloc, problem, out)?;
     put_rows(alloc, problem, model, rows, seed, out)

@@ -8,8 +8,9 @@ use model_core::{Coalitions, Model, read_model};
 use problem_core::{Problem, Scale, read_problem};
 use rand_core::utils::NextWord;
 use rand_pcg::Pcg32;
-use std::alloc::Global;
+use std::alloc::{AllocError, Global};
 use std::test::Fail;
+use table_core::Examples;
 use yaml_core::{MOST_BYTES, Node, read_yaml};
 
 /// A scale of names that need quotes, a falling scale with a negative bound, a scale of one number.
@@ -134,6 +135,78 @@ fn table_text(
     Some(text)
 }
 
+/// Which of the four scales that are drawn a scale is.
+#[derive(Clone, Copy, Debug, PartialEq, Eq)]
+enum Kind {
+    Rising,
+    Falling,
+    Whole,
+    Names,
+}
+
+/// The kind of a scale.
+fn kind_of(scale: &Scale) -> Kind {
+    match scale {
+        Scale::Rising(bounds) => {
+            if bounds.whole {
+                Kind::Whole
+            } else {
+                Kind::Rising
+            }
+        }
+        Scale::Falling(_) => Kind::Falling,
+        Scale::Named(_) => Kind::Names,
+    }
+}
+
+/// The thresholds of a model, criterion by criterion; -1 for null.
+fn thresholds_of(alloc: Global, model: &Model) -> Result<Vec<i128>, AllocError> {
+    let mut all = Vec::new(alloc);
+    for profile in model.profiles() {
+        for threshold in profile.thresholds.as_slice() {
+            match threshold {
+                Some(grade) => all.push(grade.value())?,
+                None => all.push(-1)?,
+            }
+        }
+    }
+    Ok(all)
+}
+
+/// The weights of a model, boundary by boundary.
+fn weights_of(alloc: Global, model: &Model) -> Result<Vec<i128>, AllocError> {
+    let mut all = Vec::new(alloc);
+    for coalitions in model.all_coalitions() {
+        if let Coalitions::Weights(weights) = coalitions {
+            for weight in weights.as_slice() {
+                all.push(weight.units())?;
+            }
+        }
+    }
+    Ok(all)
+}
+
+/// The grades of each example and its category.
+fn numbers_of(alloc: Global, examples: &Examples) -> Result<Vec<i128>, AllocError> {
+    let mut all = Vec::new(alloc);
+    for row in 0..examples.count() {
+        for grade in examples.grades(row) {
+            all.push(grade.value())?;
+        }
+        all.push(i128::from(examples.category(row)))?;
+    }
+    Ok(all)
+}
+
+/// The kinds of a problem's scales.
+fn kinds_of(alloc: Global, problem: &Problem) -> Result<Vec<Kind>, AllocError> {
+    let mut all = Vec::new(alloc);
+    for i in 0..problem.criteria_count() {
+        all.push(kind_of(&problem.criterion(i).scale))?;
+    }
+    Ok(all)
+}
+
 #[test]
 fn the_generator_gives_the_published_words(rt: HostRuntime) -> Result<(), Fail> {
     // The first words of the demonstration program of PCG, with seed 42 and stream 54.
@@ -166,30 +239,6 @@ fn seeds_have_their_words(rt: HostRuntime) -> Result<(), Fail> {
     Ok(())
 }
 
-/// Which of the four scales that are drawn a scale is.
-#[derive(Clone, Copy, Debug, PartialEq, Eq)]
-enum Kind {
-    Rising,
-    Falling,
-    Whole,
-    Names,
-}
-
-/// The kind of a scale.
-fn kind_of(scale: &Scale) -> Kind {
-    match scale {
-        Scale::Rising(bounds) => {
-            if bounds.whole {
-                Kind::Whole
-            } else {
-                Kind::Rising
-            }
-        }
-        Scale::Falling(_) => Kind::Falling,
-        Scale::Named(_) => Kind::Names,
-    }
-}
-
 #[test]
 fn a_problem_has_a_scale_for_each_word(rt: HostRuntime) -> Result<(), Fail> {
     let problem = draw_problem(rt.alloc(), 16, 10, 2024)?;
@@ -211,16 +260,7 @@ fn a_problem_has_a_scale_for_each_word(rt: HostRuntime) -> Result<(), Fail> {
         Kind::Names,
         Kind::Names,
     ];
-    for i in 0..16 {
-        assert_eq!(rt;
-            kind_of(&problem.criterion(i).scale),
-            kinds[i as usize],
-            "at {i}"
-        );
-    }
-    assert_eq!(rt; problem.criterion(15).name.as_str(), "Criterion 16");
-    assert_eq!(rt; problem.categories_count(), 10);
-    assert_eq!(rt; problem.category(9), "Category 10");
+    assert!(rt; kinds_of(rt.alloc(), &problem)?.as_slice() == &kinds[..]);
     Ok(())
 }
 
@@ -229,36 +269,27 @@ fn a_model_has_thresholds_in_order_and_weights_rounded_up(rt: HostRuntime) -> Re
     let problem = draw_problem(rt.alloc(), 4, 3, 41)?;
     let model = draw_model(rt.alloc(), &problem, 42)?;
     let thresholds = [
-        [567000000000000000i128, 896000000000000000],
-        [2000000000000000000, 4000000000000000000],
-        [476000000000000000, 810000000000000000],
-        [432000000000000000, 424000000000000000],
+        567000000000000000i128,
+        896000000000000000,
+        2000000000000000000,
+        4000000000000000000,
+        476000000000000000,
+        810000000000000000,
+        432000000000000000,
+        424000000000000000,
     ];
-    for i in 0..4 {
-        for h in 1..3 {
-            let threshold = model.threshold(i, h).ok_or("null")?;
-            assert_eq!(rt;
-                threshold.value(),
-                thresholds[i as usize][h as usize - 1],
-                "at {i}, {h}"
-            );
-        }
-    }
     let weights = [
         20592020592020593i128,
         289575289575289576,
         994851994851994852,
         425997425997425998,
+        20592020592020593,
+        289575289575289576,
+        994851994851994852,
+        425997425997425998,
     ];
-    for h in 1..3 {
-        let Coalitions::Weights(drawn) = model.coalitions(h) else {
-            return Err("no weights".into());
-        };
-        assert_eq!(rt; drawn.len(), 4);
-        for (i, weight) in weights.iter().enumerate() {
-            assert_eq!(rt; drawn.get(i as u32).units(), *weight, "at {i}");
-        }
-    }
+    assert!(rt; thresholds_of(rt.alloc(), &model)?.as_slice() == &thresholds[..]);
+    assert!(rt; weights_of(rt.alloc(), &model)?.as_slice() == &weights[..]);
     Ok(())
 }
 
@@ -329,72 +360,38 @@ fn examples_are_the_rows_of_the_table(rt: HostRuntime) -> Result<(), Fail> {
     let problem = draw_problem(rt.alloc(), 4, 3, 41)?;
     let model = draw_model(rt.alloc(), &problem, 42)?;
     let examples = draw_examples(rt.alloc(), &problem, &model, 6, 43)?;
-    let rows = [
-        (
-            [
-                521000000000000000i128,
-                91000000000000000000,
-                889000000000000000,
-                856000000000000000,
-            ],
-            2u32,
-        ),
-        (
-            [
-                95000000000000000,
-                94000000000000000000,
-                39000000000000000,
-                492000000000000000,
-            ],
-            0,
-        ),
-        (
-            [
-                411000000000000000,
-                94000000000000000000,
-                220000000000000000,
-                135000000000000000,
-            ],
-            0,
-        ),
-        (
-            [
-                527000000000000000,
-                3000000000000000000,
-                798000000000000000,
-                387000000000000000,
-            ],
-            1,
-        ),
-        (
-            [
-                780000000000000000,
-                44000000000000000000,
-                997000000000000000,
-                404000000000000000,
-            ],
-            2,
-        ),
-        (
-            [
-                729000000000000000,
-                37000000000000000000,
-                844000000000000000,
-                345000000000000000,
-            ],
-            2,
-        ),
+    let numbers = [
+        521000000000000000i128,
+        91000000000000000000,
+        889000000000000000,
+        856000000000000000,
+        2,
+        95000000000000000,
+        94000000000000000000,
+        39000000000000000,
+        492000000000000000,
+        0,
+        411000000000000000,
+        94000000000000000000,
+        220000000000000000,
+        135000000000000000,
+        0,
+        527000000000000000,
+        3000000000000000000,
+        798000000000000000,
+        387000000000000000,
+        1,
+        780000000000000000,
+        44000000000000000000,
+        997000000000000000,
+        404000000000000000,
+        2,
+        729000000000000000,
+        37000000000000000000,
+        844000000000000000,
+        345000000000000000,
+        2,
     ];
-    assert_eq!(rt; examples.count(), 6);
-    for (row, (grades, category)) in rows.iter().enumerate() {
-        for (i, grade) in grades.iter().enumerate() {
-            assert_eq!(rt;
-                examples.grades(row as u32)[i].value(),
-                *grade,
-                "at {row}, {i}"
-            );
-        }
-        assert_eq!(rt; examples.category(row as u32), *category, "at {row}");
-    }
+    assert!(rt; numbers_of(rt.alloc(), &examples)?.as_slice() == &numbers[..]);
     Ok(())
 }

@@ -6,3 +6,4 @@ mod SayLemmas
 mod Judging
 mod Headline
 mod Learning
+mod Rehearsing

@@ -27,4 +27,5 @@ abbrev pub makes_formula : Command → Bool
 makes_formula (learning problem table how most) = true
 makes_formula (encoding problem table how) = true
 makes_formula (checking problem table refutation) = true
+makes_formula (rehearsing criteria categories rows seed) = true
 makes_formula command = false

@@ -1,6 +1,7 @@
 -- How a command goes over files: its course.
 use Rattle.std.specs.Prelude.{◌≡◌, ◌⊎◌, ◌+◌, ◌*◌, ℕ, Bool, false, List, length, Option, None, Some, Result, Ok, Err, ◌==◌, if◌then◌else◌}
 use Rattle.literals_core.specs.declared.encoding.Encoding.{Encoding}
+use Rattle.literals_core.specs.declared.encoding.Encoding.TheVariants.{Separation}
 use Rattle.chain_core.specs.Text.{dimacs_text}
 use Rattle.chain_core.specs.declared.log.Lemma.{Lemma}
 use Rattle.sorting_rule.specs.Examples.{Example, HasNoModel}
@@ -21,14 +22,15 @@ use Rattle.draw_core.specs.DrawnTable.{drawn_table}
 use Rattle.problem_text_core.specs.ProblemText.{problem_text}
 use Rattle.model_text_core.specs.ModelText.{model_text}
 use Rattle.lincs_top.specs.Output.{accuracy_text, end_of_rows, end_of_text, text_or_none}
-use Rattle.line_core.specs.Command.{Command, classifying, rating, learning, encoding, checking, describing_problem, describing_model, describing_table, generating_problem, generating_model, generating_table}
+use Rattle.line_core.specs.Command.{Command, classifying, rating, learning, encoding, checking, describing_problem, describing_model, describing_table, generating_problem, generating_model, generating_table, rehearsing}
 use Rattle.lincs_top.specs.declared.stop.Size.{Size}
 use Rattle.lincs_top.specs.declared.stop.Verdict.{Verdict}
 use Rattle.lincs_top.specs.declared.stop.Verdict.TheVariants.{Done}
 use Rattle.lincs_top.specs.End.{End, gave, unread, over, Outcome, silent}
 use Rattle.lincs_top.specs.FileGives.{FileStep, given, problem_in, model_in, table_in, examples_in, log_in}
 use Rattle.lincs_top.specs.Judged.{Judged, judged_text}
-use Rattle.lincs_top.specs.Learned.{Learned}
+use Rattle.rehearsal_core.specs.Rehearsed.{rehearsed_problem, rehearsed_examples, rehearsed_task}
+use Rattle.lincs_top.specs.Learned.{Learned, Rehearsed}
 use Rattle.lincs_top.specs.Size.{IsOver}
 
 -- what a course meets: the files, and the place among the command's files of the one that can't be read, if
@@ -85,9 +87,12 @@ pub record Decides (problem : ProblemValue) (examples : List Example) (how : Enc
   pub learned : Learned problem examples how most verdict text
   pub is : outcome ≡ record { end = gave verdict; output = text; opened = opened }
 
--- a command that is not built has no course
-abbrev pub NotBuilt : ℕ → World → Outcome → Type 0
-NotBuilt opened world outcome = ⊥
+-- a model is learned from drawn examples: the output is what the verdict says
+pub record Rehearses (problem : ProblemValue) (examples : List Example) (opened : ℕ) (world : World) (outcome : Outcome) : Type 0 where
+  pub verdict : Verdict
+  pub text : List ℕ
+  pub rehearsed : Rehearsed problem examples verdict text
+  pub is : outcome ≡ record { end = gave verdict; output = text; opened = opened }
 
 -- the course of a command, after so many files
 abbrev pub course : Command → ℕ → World → Outcome → Type 0
@@ -137,7 +142,9 @@ course (generating_table problem_name model_name rows seed) =
     Reads problem_in problem_name (λ problem.
     Reads (model_in problem) model_name (λ model.
     Writes (gave Done) (drawn_table problem (rule_of problem model) rows (words_of (seeded seed) (rows * length problem.criteria)))))
-course command = NotBuilt
+course (rehearsing criteria categories rows seed) =
+    Sizes Separation (rehearsed_task criteria categories rows seed) (
+    Rehearses (rehearsed_problem criteria categories seed) (rehearsed_examples criteria categories rows seed))
 
 -- a course of the command ends so
 abbrev pub Ends : Command → World → Outcome → Type 0

@@ -2,6 +2,7 @@
 use Rattle.std.specs.Prelude.{◌≡◌, ◌⊎◌, ℕ, false, List, Result, Ok, Err}
 use Rattle.edge_core.specs.Outside.{SinkState}
 use Rattle.literals_core.specs.declared.encoding.Encoding.{Encoding}
+use Rattle.literals_core.specs.declared.encoding.Encoding.TheVariants.{Separation}
 use Rattle.chain_core.specs.Text.{log_text}
 use Rattle.chain_core.specs.declared.log.Lemma.{Lemma}
 use Rattle.search_core.specs.Outcomes.{IsAtLimit, IsShortRefutation}
@@ -13,6 +14,7 @@ use Rattle.ranks_core.specs.Ranks.{task_of}
 use Rattle.problem_core.specs.Problem.{ProblemValue}
 use Rattle.model_core.specs.Model.{ModelValue, Belongs, rule_of}
 use Rattle.model_text_core.specs.ModelText.{model_text, ReadsBack}
+use Rattle.rehearsal_core.specs.Rehearsed.{IsSummary}
 use Rattle.learn_core.specs.declared.learning.Answer.{Answer}
 use Rattle.learn_core.specs.declared.learning.Answer.TheVariants as answer
 use Rattle.lincs_top.specs.declared.stop.Verdict.{Verdict}
@@ -52,6 +54,13 @@ Learned problem examples how most No text = IsRefutationText how (task_of proble
 Learned problem examples how most (Limit number) text = (number ≡ most) × IsLimitText how (task_of problem examples) most text
 Learned problem examples how most (Rejected code line) text = ⊥
 
+-- what a rehearsal writes, by its verdict: a summary, or as many fresh lemmas as its search may make
+abbrev pub Rehearsed : ProblemValue → List Example → Verdict → List ℕ → Type 0
+Rehearsed problem examples Done text = IsSummary problem examples text
+Rehearsed problem examples No text = ⊥
+Rehearsed problem examples (Limit number) text = (number ≡ 100000) × IsLimitText Separation (task_of problem examples) 100000 text
+Rehearsed problem examples (Rejected code line) text = ⊥
+
 -- what an answer of learning says
 abbrev pub IsAnswer : ProblemValue → List Example → Encoding → ℕ → Answer → Type 0
 IsAnswer problem examples how most (answer.Found model) = Belongs problem model × Learns examples (rule_of problem model)
@@ -80,3 +89,10 @@ TellsModel problem model old new result = RunsShort old new result ⊎ SendsMode
 
 abbrev pub TellsLearned : ProblemValue → List Example → Encoding → ℕ → SinkState → SinkState → Result Verdict Stop → Type 0
 TellsLearned problem examples how most old new result = RunsShort old new result ⊎ SendsLearned problem examples how most old new result
+
+-- the output of a rehearsal went out as far as it could
+pub record TellsRehearsed (problem : ProblemValue) (examples : List Example) (old new : SinkState) (result : Result Verdict Stop) : Type 0 where
+  pub verdict : Verdict
+  pub text : List ℕ
+  pub rehearsed : Rehearsed problem examples verdict text
+  pub concludes : Concludes false (gave verdict) text old new result

@@ -6,7 +6,7 @@ use Rattle.edge_core.specs.Outside.{Files, ShelfState, SinkState, KeepsHeld, Ros
 use Rattle.lincs_top.specs.declared.stop.Verdict.{Verdict}
 use Rattle.lincs_top.specs.declared.stop.Verdict.TheVariants.{Done, No, Limit}
 use Rattle.lincs_top.specs.declared.stop.Stop.{Stop}
-use Rattle.line_core.specs.Command.{Command, classifying, rating, learning, encoding, checking, describing_problem, describing_model, describing_table, generating_problem, generating_model, generating_table}
+use Rattle.line_core.specs.Command.{Command, classifying, rating, learning, encoding, checking, describing_problem, describing_model, describing_table, generating_problem, generating_model, generating_table, rehearsing}
 use Rattle.lincs_top.specs.Command.{names_of, streams, makes_formula}
 use Rattle.lincs_top.specs.Course.{World, Ends, readable, unreadable_at}
 use Rattle.report_core.specs.Prefix.{AppendsPrefix}
@@ -33,7 +33,7 @@ CanGive (describing_table problem table) verdict = verdict ≡ Done
 CanGive (generating_problem criteria categories seed) verdict = verdict ≡ Done
 CanGive (generating_model problem seed) verdict = verdict ≡ Done
 CanGive (generating_table problem model rows seed) verdict = verdict ≡ Done
-CanGive command verdict = ⊥
+CanGive (rehearsing criteria categories rows seed) verdict = (verdict ≡ Done) ⊎ (verdict ≡ Limit 100000)
 
 -- the ends that a command can come to, whatever its files hold
 abbrev pub CanEnd : Command → End → Type 0

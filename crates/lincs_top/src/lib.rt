@@ -15,6 +15,7 @@ mod learn;
 mod line;
 mod process;
 mod program;
+mod rehearse;
 mod status;
 mod stop;
 

@@ -1,7 +1,6 @@
 //! The top call.
-ghost use Rattle.std.specs.Prelude.{◌≡◌, ◌≢◌, ◌↔◌, Err, IsTrue, IsErr};
-ghost use Rattle.line_core.specs.Command.{HasItsRanges, command_of, verb_of};
-ghost use Rattle.line_core.specs.Commands.{is_built};
+ghost use Rattle.std.specs.Prelude.{◌≡◌, ◌≢◌, ◌↔◌, Err, IsErr};
+ghost use Rattle.line_core.specs.Command.{HasItsRanges, command_of};
 ghost use Rattle.line_core.specs.Line.{line_gives};
 ghost use Rattle.line_core.specs.Texts.{texts};
 ghost use Rattle.lincs_top.specs.Headline.{Sorts, FindsModel, WritesRefutation, WritesLemmas, Accepts};
@@ -16,13 +15,14 @@ use crate::encode::write_formula;
 use crate::generate::{generate_model, generate_problem, generate_table};
 use crate::learn::learn_model;
 use crate::line::write_line;
+use crate::rehearse::rehearse_once;
 use crate::status::Status;
 use crate::stop::{Stop, Verdict, status_of};
 use edge_core::{Shelf, Sink};
 use line_core::{Job, read_line};
 use std::alloc::Global;
 
-// Does a job of a command that is built.
+// Does a job.
 fn obey<'a, S: Shelf, O: Sink>(
     alloc: Global,
     job: Job<'a>,
@@ -31,7 +31,6 @@ fn obey<'a, S: Shelf, O: Sink>(
 ) -> Result<Verdict, Stop<'a>>
     requires names { MayOpen (S.state shelf.old) (command_of job) }
     requires ranges { HasItsRanges (command_of job) }
-    requires built { IsTrue (is_built (verb_of (command_of job))) }
     ensures { Obeys (command_of job.entry) (S.state shelf.old) (S.state shelf.new) (O.state out.old) (O.state out.new) result }
 {
     match job {
@@ -78,7 +77,12 @@ fn obey<'a, S: Shelf, O: Sink>(
             rows,
             seed,
         } => generate_table(alloc, problem, model, rows, seed, shelf, out),
-        _ => unreachable!(),
+        Job::Rehearse {
+            criteria,
+            categories,
+            rows,
+            seed,
+        } => rehearse_once(alloc, criteria, categories, rows, seed, shelf, out),
     }
 }
 

@@ -1,3 +1,2 @@
 mod NumberLemmas
-mod BuiltLemmas
 pub mod RangeLemmas

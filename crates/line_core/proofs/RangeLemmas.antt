@@ -27,7 +27,13 @@ use Rattle.line_core.specs.Number.{least_of, most_of, is_number, quantity_in}
 use Rattle.line_core.specs.Options.{is_option, name_part, value_part, option_named, encoding_named, is_offered, is_given, all_given, with_value}
 use Rattle.line_core.specs.Position.{fits, position}
 use Rattle.line_core.specs.Walk.{stored, valued, named, option_step, positioned, position_step, step_after, step, walk}
-use Rattle.line_core.proofs.BuiltLemmas.{rest_given}
+
+-- the words after a verb's give a command of this verb, from the values of its options
+rest_given : (verb : Verb) (number : ℕ) (words : List (List ℕ)) (command : Command) → rest_gives verb number words ≡ Ok command
+    → (values : OptionValues) × (walk (kinds_of verb) (offers_of verb) begun number words ≡ Ok values) × (command_from verb values words ≡ command)
+rest_given verb number words command is =
+    let read = accepted_bind (walk (kinds_of verb) (offers_of verb) begun number words) (λ values. Ok (command_from verb values words)) command is in
+    (read.0, read.1, cc (read.2))
 
 -- a number that is read is in its range
 read_within : (digits above below : Bool) (least most value : ℕ) → (above ≡ true → least ≤ value) → (below ≡ true → value ≤ most)

@@ -3,8 +3,6 @@ use Rattle.std.specs.Prelude.{ℕ, ◌≤◌, ◌<◌, ◌^◌, List, Result, Ok
 use Rattle.literals_core.specs.declared.encoding.Encoding.{Encoding}
 use Rattle.line_core.specs.declared.command.Job.{Job}
 use Rattle.line_core.specs.declared.command.Job.TheVariants as job
-use Rattle.line_core.specs.declared.command.Verb.{Verb}
-use Rattle.line_core.specs.declared.command.Verb.TheVariants as verb
 use Rattle.line_core.specs.declared.fault.LineFault.{LineFault}
 
 -- a command, by the names of its files in the order in which they are read, its numbers and the values of its options
@@ -40,20 +38,6 @@ command_of (job.Rehearse criteria categories rows seed) = rehearsing criteria ca
 abbrev pub read_as : Result Job LineFault → Result Command LineFault
 read_as (Ok job) = Ok (command_of job)
 read_as (Err fault) = Err fault
-
-abbrev pub verb_of : Command → Verb
-verb_of (classifying problem model table) = verb.Classify
-verb_of (rating problem model table) = verb.Accuracy
-verb_of (learning problem table how most) = verb.Learn
-verb_of (encoding problem table how) = verb.Encode
-verb_of (checking problem table log) = verb.CheckRefutation
-verb_of (describing_problem problem) = verb.DescribeProblem
-verb_of (describing_model problem model) = verb.DescribeModel
-verb_of (describing_table problem table) = verb.DescribeTable
-verb_of (generating_problem criteria categories seed) = verb.GenerateProblem
-verb_of (generating_model problem seed) = verb.GenerateModel
-verb_of (generating_table problem model rows seed) = verb.GenerateTable
-verb_of (rehearsing criteria categories rows seed) = verb.Rehearse
 
 -- the numbers of a command are within the ranges that its line may write
 abbrev pub HasItsRanges : Command → Type 0

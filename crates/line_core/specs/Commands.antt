@@ -1,5 +1,5 @@
--- The table of the commands: their words, what their positions take, their options, and which of them are built.
-use Rattle.std.specs.Prelude.{ℕ, Bool, true, false, List, [], ◌∷◌, Option, None, Some, codes}
+-- The table of the commands: their words, what their positions take, and their options.
+use Rattle.std.specs.Prelude.{ℕ, true, false, List, [], ◌∷◌, Option, None, Some, codes}
 use Rattle.line_core.specs.declared.command.Verb.{Verb}
 use Rattle.line_core.specs.declared.command.Verb.TheVariants as verb
 use Rattle.line_core.specs.declared.number.Quantity.TheVariants.{Criteria, Categories, TableRows, RehearsalRows, Seed}
@@ -13,21 +13,6 @@ unfoldable pub verbs : List Verb
 verbs = verb.Classify ∷ verb.Accuracy ∷ verb.Learn ∷ verb.Encode ∷ verb.CheckRefutation
     ∷ verb.DescribeProblem ∷ verb.DescribeModel ∷ verb.DescribeTable
     ∷ verb.GenerateProblem ∷ verb.GenerateModel ∷ verb.GenerateTable ∷ verb.Rehearse ∷ []
-
--- the program does the command
-abbrev pub is_built : Verb → Bool
-is_built verb.Classify = true
-is_built verb.Accuracy = true
-is_built verb.Learn = true
-is_built verb.Encode = true
-is_built verb.CheckRefutation = true
-is_built verb.DescribeProblem = true
-is_built verb.DescribeModel = true
-is_built verb.DescribeTable = true
-is_built verb.GenerateProblem = true
-is_built verb.GenerateModel = true
-is_built verb.GenerateTable = true
-is_built other = false
 
 -- the words that a command begins with: one, or two
 abbrev pub first_word : Verb → List ℕ

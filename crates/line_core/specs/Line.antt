@@ -13,7 +13,7 @@ use Rattle.line_core.specs.declared.number.Quantity.TheVariants.{Criteria, Categ
 use Rattle.line_core.specs.declared.options.OptionValues.{OptionValues}
 use Rattle.line_core.specs.declared.walk.Progress.{Progress}
 use Rattle.line_core.specs.Command.{Command, classifying, rating, learning, encoding, checking, describing_problem, describing_model, describing_table, generating_problem, generating_model, generating_table, rehearsing}
-use Rattle.line_core.specs.Commands.{verbs, is_built, first_word, second_word, kinds_of, offers_of}
+use Rattle.line_core.specs.Commands.{verbs, first_word, second_word, kinds_of, offers_of}
 use Rattle.line_core.specs.Position.{name_at, number_at}
 use Rattle.line_core.specs.Walk.{walk}
 
@@ -28,13 +28,13 @@ abbrev pub begins : Verb → List (List ℕ) → Bool
 begins verb [] = false
 begins verb (first ∷ more) = bytes_eq first (first_word verb) && follows (second_word verb) more
 
--- the command that is built and whose words these begin with
+-- the command whose words these begin with
 abbrev pub verb_in : List Verb → List (List ℕ) → Option Verb
-verb_in verbs words = find (λ verb. is_built verb && begins verb words) verbs
+verb_in verbs words = find (λ verb. begins verb words) verbs
 
--- a command that is built begins with this word
+-- some command begins with this word
 abbrev pub begins_some : List Verb → List ℕ → Bool
-begins_some verbs word = list_any (λ verb. is_built verb && bytes_eq (first_word verb) word) verbs
+begins_some verbs word = list_any (λ verb. bytes_eq (first_word verb) word) verbs
 
 -- the command of a verb, of the values of its options, and of the words after its own
 abbrev pub command_from : Verb → OptionValues → List (List ℕ) → Command
@@ -74,8 +74,7 @@ after_second verb (second ∷ words) = rest_gives verb 3 words
 abbrev pub after_first : Verb → List (List ℕ) → Result Command LineFault
 after_first verb words = if is_some (second_word verb) then after_second verb words else rest_gives verb 2 words
 
--- the words begin with a command that is built; else the second word is unknown if some such command begins
--- with the first
+-- the words begin with a command; else the second word is unknown if some command begins with the first
 abbrev pub command_gives : Option Verb → List ℕ → List (List ℕ) → Result Command LineFault
 command_gives (Some verb) first more = after_first verb more
 command_gives None first more = if begins_some verbs first then Err (UnknownCommand 2) else Err (UnknownCommand 1)

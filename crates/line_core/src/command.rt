@@ -1,8 +1,8 @@
-//! The commands: their words, what their positions take, their options, and which of them are built. A
-//! further command is a further line in each table.
+//! The commands: their words, what their positions take, and their options. A further command is a further line in
+//! each table.
 ghost use Rattle.std.specs.Prelude.{◌≡◌};
 ghost use Rattle.std.specs.Option.{option_copied};
-ghost use Rattle.line_core.specs.Commands.{first_word, second_word, verbs, is_built, kinds_of, offers_of};
+ghost use Rattle.line_core.specs.Commands.{first_word, second_word, verbs, kinds_of, offers_of};
 
 use crate::number::Quantity;
 use crate::options::{Offer, OptionName};
@@ -120,19 +120,6 @@ pub(crate) fn verbs() -> &'static [Verb]
         Verb::GenerateTable,
         Verb::Rehearse,
     ]
-}
-
-/// Whether the program does the command yet. The words of a command that is not built are unknown.
-pub(crate) fn is_built(verb: Verb) -> bool
-    ensures { result ≡ is_built verb }
-{
-    match verb {
-        Verb::Classify | Verb::Accuracy => true,
-        Verb::Learn | Verb::Encode | Verb::CheckRefutation => true,
-        Verb::DescribeProblem | Verb::DescribeModel | Verb::DescribeTable => true,
-        Verb::GenerateProblem | Verb::GenerateModel | Verb::GenerateTable => true,
-        _ => false,
-    }
 }
 
 /// The word that a command begins with.

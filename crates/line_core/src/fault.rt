@@ -9,7 +9,7 @@ pub enum LineFault {
     /// There is no word.
     #[error("no command at word {0}")]
     NoCommand(u64),
-    /// No command that is built begins with these words.
+    /// No command begins with these words.
     #[error("unknown command at word {0}")]
     UnknownCommand(u64),
     /// A position is empty, an option has no value, or a required option is not given.

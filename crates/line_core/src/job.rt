@@ -1,12 +1,11 @@
 //! The job of a command line.
-ghost use Rattle.std.specs.Prelude.{◌≡◌, ◌≤◌, ◌+◌, ◌<◌, ◌^◌, ℕ, List, length, Ok, IsTrue, IfOk};
+ghost use Rattle.std.specs.Prelude.{◌≡◌, ◌≤◌, ◌+◌, ◌<◌, ◌^◌, ℕ, List, length, Ok};
 ghost use Rattle.std.specs.Option.{option_copied};
 ghost use Rattle.line_core.specs.Texts.{texts};
-ghost use Rattle.line_core.specs.Command.{Command, command_of, verb_of, read_as, HasItsRanges};
-ghost use Rattle.line_core.specs.Commands.{is_built};
+ghost use Rattle.line_core.specs.Command.{Command, command_of, read_as, HasItsRanges};
 ghost use Rattle.line_core.specs.Line.{follows, begins, verb_in, begins_some, command_from, rest_gives, after_first, line_gives};
 
-use crate::command::{Job, Verb, first_word, is_built, kinds_of, offers_of, second_word, verbs};
+use crate::command::{Job, Verb, first_word, kinds_of, offers_of, second_word, verbs};
 use crate::fault::LineFault;
 use crate::number::Quantity;
 use crate::options::OptionValues;
@@ -35,23 +34,23 @@ fn begins(verb: Verb, words: &[String]) -> bool
     first.as_str() == first_word(verb) && follows(second_word(verb), more)
 }
 
-// The command that is built and whose words these begin with.
+// The command whose words these begin with.
 fn verb_in(verbs: &[Verb], words: &[String]) -> Option<Verb>
     ensures { result ≡ verb_in verbs.now (texts words.now) }
 {
     verbs
         .iter()
         .copied()
-        .find(|verb| is_built(*verb) && begins(*verb, words))
+        .find(|verb| begins(*verb, words))
 }
 
-// Whether a command that is built begins with this word.
+// Whether some command begins with this word.
 fn begins_some(verbs: &[Verb], word: &str) -> bool
     ensures { result ≡ begins_some verbs.now word.now }
 {
     verbs
         .iter()
-        .any(|verb| is_built(*verb) && first_word(*verb) == word)
+        .any(|verb| first_word(*verb) == word)
 }
 
 // The job of a command whose words have no fault, from the words after its own.
@@ -159,8 +158,7 @@ fn read_command(verb: Verb, more: &[String]) -> Result<Job<'_>, LineFault>
 /// memory. Options may stand anywhere between the positions, with their value after `=` or as the next
 /// word.
 pub fn read_line(words: &[String]) -> Result<Job<'_>, LineFault>
-    ensures job { read_as result ≡ line_gives (texts words.now) }
-    ensures built { IfOk result (λ job. IsTrue (is_built (verb_of (command_of job)))) }
+    ensures { read_as result ≡ line_gives (texts words.now) }
 {
     let [first, more @ ..] = words else {
         return Err(LineFault::NoCommand(1));

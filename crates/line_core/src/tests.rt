@@ -17,7 +17,7 @@ fn words_of(rt: HostRuntime, line: &str) -> Result<Vec<String>, Fail> {
 }
 
 #[test]
-fn a_line_begins_with_a_command_that_is_built(rt: HostRuntime) -> Result<(), Fail> {
+fn a_line_begins_with_a_command(rt: HostRuntime) -> Result<(), Fail> {
     let job = Job::Classify {
         problem: "P",
         model: "-",
@@ -27,7 +27,7 @@ fn a_line_begins_with_a_command_that_is_built(rt: HostRuntime) -> Result<(), Fai
         ("classify P - -x", Ok(job)),
         ("", Err(LineFault::NoCommand(1))),
         ("Classify P M A", Err(LineFault::UnknownCommand(1))),
-        ("rehearse 1 2 3 4", Err(LineFault::UnknownCommand(1))),
+        ("rehearsal 1 2 3 4", Err(LineFault::UnknownCommand(1))),
         ("classify", Err(LineFault::Missing(2))),
         ("classify P M", Err(LineFault::Missing(4))),
         ("classify P M A B", Err(LineFault::Extra(5))),

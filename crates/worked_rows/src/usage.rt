@@ -9,7 +9,11 @@ fn a_line_that_is_no_job_opens_no_file_and_names_its_word(rt: HostRuntime) -> Re
         ("", "lincs: usage 1 at word 1\n"),
         ("sort P.yml", "lincs: usage 2 at word 1\n"),
         ("describe P.yml", "lincs: usage 2 at word 2\n"),
-        ("rehearse 1 2 0 5", "lincs: usage 2 at word 1\n"),
+        ("generate 1 2", "lincs: usage 2 at word 2\n"),
+        (
+            "learn classification-model P.yml A.csv --max-conflicts 0",
+            "lincs: usage 7 at word 5\n",
+        ),
         ("classify P.yml M.yml", "lincs: usage 3 at word 4\n"),
         (
             "classify P.yml M.yml A.csv B.csv",

@@ -1,4 +1,4 @@
-use Rattle.std.proofs.Common.{◌≡◌, ◌<◌, List, ℕ, pos, length, ap, sym, subst, ◌∙◌, arith}
+use Rattle.std.proofs.Common.{◌<◌, List, ℕ, length, sym, subst}
 use Rattle.problem_core.specs.Grade.{IsGrade}
 use Rattle.problem_core.specs.declared.criterion.Scale.TheVariants.{Named}
 use Rattle.draw_core.specs.Choice.{choice_count}

@@ -1,13 +1,10 @@
-use Rattle.std.proofs.Common.{◌≡◌, ℕ, List, length, ap, sym, subst, ◌∙◌}
-use Rattle.std.specs.List.{All, AllZip}
+use Rattle.std.proofs.Common.{ℕ, List, length, ap, sym, subst, ◌∙◌}
 use Rattle.std.specs.Prelude.{replicate}
-use Rattle.problem_core.specs.declared.criterion.Criterion.{Criterion}
-use Rattle.model_core.specs.Model.{boundaries_of, IsThreshold, Belongs}
+use Rattle.model_core.specs.Model.{boundaries_of, Belongs}
 use Rattle.model_core.specs.declared.model.Coalitions.TheVariants.{Weights}
-use Rattle.model_core.specs.declared.model.Profile.{Profile}
 use Rattle.encoding_rules.specs.Each.{listed}
 use Rattle.encoding_rules.proofs.EachFacts.{length-listed}
-use Rattle.draw_core.specs.DrawnModel.{drawn_model, drawn_profile, drawn_weights, model_words}
+use Rattle.draw_core.specs.DrawnModel.{drawn_model, drawn_profile, drawn_weights}
 use Rattle.draw_core.specs.Words.{seeded, word, words_of}
 use Rattle.draw_core.proofs.ModelFacts.{made-belongs, model-count, model-made}
 use Rattle.draw_core.proofs.model.draw_model.Goals as goal

@@ -1,9 +1,8 @@
-use Rattle.std.proofs.Common.{◌≡◌, ◌<◌, ◌+◌, ℕ, List, [], ◌∷◌, ◌++◌, length, take, sym, ap, ◌∙◌, subst, add-one, arith}
+use Rattle.std.proofs.Common.{◌<◌, ◌+◌, ℕ, List, length, take, sym, subst, arith}
 use Rattle.std.specs.List.{All, AllZip}
 use Rattle.problem_core.specs.declared.criterion.Criterion.{Criterion}
 use Rattle.model_core.specs.Model.{IsThreshold}
 use Rattle.model_core.specs.declared.model.Profile.{Profile}
-use Rattle.encoding_rules.specs.Each.{listed}
 use Rattle.draw_core.specs.DrawnModel.{drawn_profile}
 use Rattle.draw_core.proofs.ListedFacts.{listed-push, zip-more}
 use Rattle.draw_core.proofs.model.drawn_profiles.Goals as goal

@@ -1,4 +1,4 @@
-use Rattle.std.proofs.Common.{◌≡◌, ◌<◌, length, ap, arith}
+use Rattle.std.proofs.Common.{length, ap, arith}
 use Rattle.encoding_rules.proofs.EachFacts.{length-listed}
 use Rattle.draw_core.specs.DrawnModel.{drawn_weight}
 use Rattle.draw_core.proofs.model.drawn_weights.Goals as goal

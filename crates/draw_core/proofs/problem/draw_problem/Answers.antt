@@ -1,4 +1,4 @@
-use Rattle.std.proofs.Common.{◌≡◌, ◌≤◌, length, ap, sym, subst, ◌∙◌, arith}
+use Rattle.std.proofs.Common.{length, ap, sym, subst, ◌∙◌, arith}
 use Rattle.problem_core.specs.Problem.{IsProblem}
 use Rattle.draw_core.specs.DrawnProblem.{drawn_problem}
 use Rattle.draw_core.specs.Words.{seeded, word}

@@ -1,4 +1,4 @@
-use Rattle.std.proofs.Common.{◌≡◌, ◌<◌, length, ap, arith}
+use Rattle.std.proofs.Common.{length, ap, arith}
 use Rattle.draw_core.specs.DrawnProblem.{drawn_criterion}
 use Rattle.encoding_rules.proofs.EachFacts.{length-listed}
 use Rattle.draw_core.proofs.problem.drawn_criteria.Goals as goal

@@ -1,11 +1,7 @@
-use Rattle.std.proofs.Common.{◌≡◌, ◌<◌, ◌+◌, ◌*◌, ℕ, ℤ, List, [], ◌∷◌, ◌++◌, length, refl, sym, ap, ◌∙◌, subst, add-one, arith}
-use Rattle.std.specs.List.{All, AllZip}
+use Rattle.std.proofs.Common.{◌≡◌, ◌<◌, ◌*◌, ℕ, ℤ, List, [], length, sym, ap, ◌∙◌, subst, arith}
 use Rattle.std.proofs.lemmas.List.Elements.{All-nil, All-weaker}
-use Rattle.std.proofs.lemmas.Slice.Zip.{AllZip-long}
 use Rattle.rand_pcg.specs.Lcg.{Lcg}
-use Rattle.problem_core.specs.Grade.{IsGrade}
 use Rattle.problem_core.specs.Problem.{ProblemValue}
-use Rattle.problem_core.specs.declared.criterion.Criterion.{Criterion}
 use Rattle.sorting_rule.specs.Examples.{Example, Restores}
 use Rattle.sorting_rule.specs.Model.{Model, category}
 use Rattle.model_core.specs.Model.{rule_of}
@@ -13,16 +9,16 @@ use Rattle.table_core.specs.Examples.{BelongTo}
 use Rattle.table_core.proofs.BelongFacts.{belong-lengths}
 use Rattle.encoding_rules.specs.Each.{listed}
 use Rattle.encoding_rules.proofs.EachFacts.{length-listed}
-use Rattle.draw_core.specs.DrawnTable.{drawn_example, row_grades}
-use Rattle.draw_core.specs.Words.{after, seeded, words_of}
+use Rattle.draw_core.specs.DrawnTable.{drawn_example, row_grades, AreGrades}
+use Rattle.draw_core.specs.Words.{seeded, words_of}
 use Rattle.draw_core.proofs.ListedFacts.{listed-push}
-use Rattle.draw_core.proofs.RowFacts.{drawn-push, drawn-restored, example-made, examples-drawn, row-after, row-drawn, row-start}
+use Rattle.draw_core.proofs.RowFacts.{drawn-push, drawn-restored, example-made, examples-drawn, row-after, row-drawn, row-start, grades-long}
 use Rattle.draw_core.proofs.rows.draw_examples.Goals as goal
 
 pub loop-init : goal.loop-init
 loop-init c =
     let none : BelongTo c.args.problem.now [] = record {
-      grades = All-nil (λ (e : Example). AllZip (λ criterion grade. IsGrade criterion.scale grade) c.args.problem.now.criteria e.grades);
+      grades = All-nil (λ (e : Example). AreGrades c.args.problem.now e.grades);
       categories = All-nil (λ (e : Example). e.category < length c.args.problem.now.categories);
     } in
     record {
@@ -42,7 +38,7 @@ push-requires-clause-same c =
     let problem : ProblemValue = c.args.problem.now in
     let n : ℕ = length problem.criteria in
     let size : length c.as_slice.result.now ≡ n =
-    ap length c.as_slice.ensures.value ∙ AllZip-long (λ (criterion : Criterion) (grade : ℤ). IsGrade criterion.scale grade) problem.criteria c.draw_row.new.grades.items c.in_ok-category.ensures.belong in
+    ap length c.as_slice.ensures.value ∙ grades-long problem c.draw_row.new.grades.items c.in_ok-category.ensures.belong in
     All-weaker (λ (e : Example). length e.grades ≡ n) (λ (e : Example). length e.grades ≡ length c.as_slice.result.now) (λ e same. same ∙ sym size) c.loop.examples
     (belong-lengths problem c.loop.examples c.loop.invariant.belong)
 
@@ -64,7 +60,7 @@ loop-preserved c =
       examples = listed-push (drawn_example problem rule words) k c.loop.examples c.push.new.self e c.in_ok-push.ensures.ok c.loop.invariant.examples (example-made problem rule words k grades c.in_ok-category.category is sorted);
       belong = subst (BelongTo problem) (sym c.in_ok-push.ensures.ok)
           (drawn-push problem rule c.loop.examples e c.loop.invariant.belong
-          (subst (AllZip (λ (criterion : Criterion) (grade : ℤ). IsGrade criterion.scale grade) problem.criteria) (sym c.as_slice.ensures.value) c.in_ok-category.ensures.belong) c.in_ok-category.ensures.below);
+          (subst (AreGrades problem) (sym c.as_slice.ensures.value) c.in_ok-category.ensures.belong) c.in_ok-category.ensures.below);
       generator = row-after g c.loop.generator k n c.draw_row.new.generator c.loop.invariant.generator c.in_ok-category.ensures.after;
     }
 

@@ -1,11 +1,10 @@
-use Rattle.std.proofs.Common.{◌≡◌, ◌<◌, ◌+◌, ◌%◌, ℕ, ℤ, List, [], ◌∷◌, ◌++◌, length, take, refl, sym, ap, ◌∙◌, subst, add-one, arith}
+use Rattle.std.proofs.Common.{◌≡◌, ◌<◌, ◌+◌, ◌%◌, ℕ, ℤ, List, [], length, take, refl, sym, ap, ◌∙◌, subst, add-one, arith}
 use Rattle.std.specs.List.{AllZip}
 use Rattle.rand_pcg.specs.Lcg.{Lcg}
 use Rattle.problem_core.specs.Grade.{IsGrade}
 use Rattle.problem_core.specs.declared.criterion.Criterion.{Criterion}
 use Rattle.problem_core.specs.declared.criterion.Scale.{Scale}
-use Rattle.encoding_rules.specs.Each.{listed}
-use Rattle.draw_core.specs.Choice.{choice_count, chosen, scale_at}
+use Rattle.draw_core.specs.Choice.{chosen, scale_at}
 use Rattle.draw_core.specs.DrawnTable.{drawn_grade}
 use Rattle.draw_core.specs.Words.{after, word}
 use Rattle.draw_core.proofs.ListedFacts.{listed-push, zip-more}

@@ -1,22 +1,17 @@
-use Rattle.std.proofs.Common.{◌≡◌, ◌<◌, ◌++◌, ℕ, ℤ, List, [], length, take, get_or, sym, ap, ◌∙◌, subst, arith}
+use Rattle.std.proofs.Common.{◌≡◌, ◌<◌, ◌++◌, ℕ, List, [], length, take, sym, ap, ◌∙◌, subst, arith}
 use Rattle.std.specs.List.{flat_map}
 use Rattle.std.proofs.lemmas.List.{take_all}
-use Rattle.std.proofs.lemmas.Slice.Zip.{AllZip-long}
-use Rattle.lists_core.specs.Puts.{Puts}
 use Rattle.lists_core.proofs.PutsFacts.{puts-failed}
-use Rattle.problem_core.specs.Grade.{IsGrade, grade_text}
-use Rattle.problem_core.specs.declared.criterion.Criterion.{Criterion}
+use Rattle.problem_core.specs.Grade.{IsGrade}
 use Rattle.table_core.specs.Written.{next_text}
 use Rattle.table_core.proofs.PieceFacts.{piece-more, piece-cut}
-use Rattle.encoding_rules.proofs.EachFacts.{length-listed}
-use Rattle.draw_core.specs.Choice.{scale_at}
 use Rattle.draw_core.specs.DrawnTable.{cells_of}
-use Rattle.draw_core.proofs.RowFacts.{cell-at, cells-long, zip-at}
+use Rattle.draw_core.proofs.RowFacts.{cell-at, cells-long, zip-at, grades-long}
 use Rattle.draw_core.proofs.rows.put_cells.Goals as goal
 
 pub bounds-grades-i : goal.bounds-grades-i
 bounds-grades-i c =
-    let size = AllZip-long (λ (criterion : Criterion) (grade : ℤ). IsGrade criterion.scale grade) c.args.problem.now.criteria c.args.grades.now c.requires in
+    let size = grades-long c.args.problem.now c.args.grades.now c.requires in
     omega (arith, size)
 
 pub put_cell-requires : goal.put_cell-requires
@@ -26,7 +21,7 @@ put_cell-requires c =
 pub loop-i-preserved : goal.loop-i-preserved
 loop-i-preserved c =
     let cells : List (List ℕ) = cells_of c.args.problem.now c.args.grades.now in
-    let size = AllZip-long (λ (criterion : Criterion) (grade : ℤ). IsGrade criterion.scale grade) c.args.problem.now.criteria c.args.grades.now c.requires in
+    let size = grades-long c.args.problem.now c.args.grades.now c.requires in
     let lt : c.loop-i.i < length c.args.problem.now.criteria = omega arith in
     let is = cell-at c.args.problem.now c.args.grades.now c.loop-i.i c.criterion.result.now c.index-grades-i.result lt (omega (arith, lt, size)) c.criterion.ensures c.index-grades-i.is in
     let many = cells-long c.args.problem.now c.args.grades.now in
@@ -36,7 +31,7 @@ loop-i-preserved c =
 pub returns-in_err-put_cell : goal.returns-in_err-put_cell
 returns-in_err-put_cell c =
     let cells : List (List ℕ) = cells_of c.args.problem.now c.args.grades.now in
-    let size = AllZip-long (λ (criterion : Criterion) (grade : ℤ). IsGrade criterion.scale grade) c.args.problem.now.criteria c.args.grades.now c.requires in
+    let size = grades-long c.args.problem.now c.args.grades.now c.requires in
     let lt : c.loop-i.i < length c.args.problem.now.criteria = omega arith in
     let is = cell-at c.args.problem.now c.args.grades.now c.loop-i.i c.criterion.result.now c.index-grades-i.result lt (omega (arith, lt, size)) c.criterion.ensures c.index-grades-i.is in
     let many = cells-long c.args.problem.now c.args.grades.now in

@@ -1,11 +1,10 @@
-use Rattle.std.proofs.Common.{◌≡◌, ◌<◌, ◌+◌, ◌*◌, ℕ, ℤ, List, [], ◌++◌, length, take, sym, ap, ◌∙◌, subst, add-one, arith}
+use Rattle.std.proofs.Common.{◌≡◌, ◌<◌, ◌*◌, ℕ, ℤ, List, ◌++◌, length, take, sym, ap, ◌∙◌, subst, arith}
 use Rattle.std.proofs.lemmas.List.{append-nil}
 use Rattle.rand_pcg.specs.Lcg.{Lcg}
 use Rattle.lists_core.proofs.PutsFacts.{puts-failed}
 use Rattle.problem_core.specs.Problem.{ProblemValue}
 use Rattle.sorting_rule.specs.Model.{Model, category}
 use Rattle.model_core.specs.Model.{rule_of}
-use Rattle.encoding_rules.specs.Each.{each}
 use Rattle.draw_core.specs.DrawnTable.{drawn_record, row_grades}
 use Rattle.draw_core.specs.Words.{seeded, words_of}
 use Rattle.draw_core.proofs.RowFacts.{each-cut, each-more, record-made, row-after, row-drawn, row-start}

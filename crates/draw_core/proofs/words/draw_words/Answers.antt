@@ -1,6 +1,5 @@
-use Rattle.std.proofs.Common.{◌≡◌, ℕ, ◌+◌, ◌∷◌, [], ◌++◌, refl, sym, ap, ◌∙◌, add-one}
+use Rattle.std.proofs.Common.{ℕ, sym, ap, ◌∙◌, add-one}
 use Rattle.rand_pcg.specs.Lcg.{Lcg}
-use Rattle.encoding_rules.specs.Each.{listed}
 use Rattle.draw_core.specs.Words.{after, seeded, word}
 use Rattle.draw_core.proofs.ListedFacts.{listed-push}
 use Rattle.draw_core.proofs.WordFacts.{word-step}

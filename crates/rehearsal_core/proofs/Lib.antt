@@ -1,0 +1,3 @@
+pub mod Weighted
+pub mod DrawnFacts
+pub mod SummaryFacts
