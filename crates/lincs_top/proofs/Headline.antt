@@ -1,15 +1,13 @@
 -- What the status of a run says, from the course that its command came along.
-use Rattle.std.proofs.Common.{◌≡◌, ◌⊎◌, ◌+◌, inl, inr, ℕ, Bool, true, false, List, Option, None, Some, Result, Ok, Err, refl, sym, ap, ◌∙◌, subst, length}
+use Rattle.std.proofs.Common.{◌≡◌, ◌+◌, inl, inr, ℕ, Bool, true, false, List, Option, None, Some, Result, Ok, Err, refl, sym, ap, ◌∙◌, subst, length}
 use Rattle.std.specs.Prelude.{⊤, nat_lt, if◌then◌else◌}
 use Rattle.std.specs.Io.KnownBytes.{Appends}
 use Rattle.literals_core.specs.declared.encoding.Encoding.{Encoding}
 use Rattle.edge_core.specs.Outside.{Files, ShelfState, SinkState, bytes_of}
 use Rattle.lists_core.specs.Answers.{◌>>=◌}
-use Rattle.chain_core.specs.Log.{IsRefutation}
 use Rattle.encoding_rules.specs.Encodings.{formula_of}
 use Rattle.encoding_rules.specs.Task.{Task}
 use Rattle.ranks_core.specs.Ranks.{task_of}
-use Rattle.sorting_rule.specs.Examples.{Example}
 use Rattle.problem_core.specs.Problem.{ProblemValue}
 use Rattle.problem_core.specs.ReadProblem.{problem_of}
 use Rattle.model_core.specs.ReadModel.{model_of}
@@ -27,12 +25,11 @@ use Rattle.lincs_top.specs.declared.stop.Verdict.{Verdict}
 use Rattle.lincs_top.specs.declared.stop.Verdict.TheVariants as verdict
 use Rattle.lincs_top.specs.declared.stop.Refusal.{Refusal}
 use Rattle.lincs_top.specs.declared.stop.Refusal.TheVariants as refusal
-use Rattle.lincs_top.specs.declared.stop.Size.{Size}
-use Rattle.lincs_top.specs.End.{End, gave, unread, refused, over, Outcome, silent}
+use Rattle.lincs_top.specs.End.{End, gave, unread, refused, over, Outcome}
 use Rattle.lincs_top.specs.FileGives.{FileStep, refusing, tree_in, problem_in, model_in, table_in, examples_in, log_in, most_bytes, bytes_in, given}
-use Rattle.lincs_top.specs.Course.{World, readable, Goes, Reads, Sizes, Decides, Judges, Writes, course, Ends}
+use Rattle.lincs_top.specs.Course.{World, readable, Goes, Reads, Sizes, course, Ends}
 use Rattle.lincs_top.specs.Judged.{Judged}
-use Rattle.lincs_top.specs.Learned.{Learned, IsModelText, IsRefutationText, IsLimitText}
+use Rattle.lincs_top.specs.Learned.{Learned}
 use Rattle.lincs_top.specs.Output.{end_of_rows}
 use Rattle.lincs_top.specs.Report.{at_end, status_of_report}
 use Rattle.lincs_top.specs.Run.{CourseEnds}

@@ -1,5 +1,5 @@
 -- What learning writes, and how its command ends.
-use Rattle.std.proofs.Common.{◌≡◌, ◌⊎◌, inl, inr, ℕ, false, List, Result, Ok, Err, refl, sym, ap, ◌∙◌, subst}
+use Rattle.std.proofs.Common.{◌≡◌, inl, inr, ℕ, false, List, Result, Ok, Err, refl, sym, ap, ◌∙◌, subst}
 use Rattle.literals_core.specs.declared.encoding.Encoding.{Encoding}
 use Rattle.edge_core.specs.Outside.{ShelfState, SinkState}
 use Rattle.lists_core.specs.Answers.{◌>>=◌}
@@ -31,7 +31,7 @@ use Rattle.lincs_top.specs.Course.{Decides}
 use Rattle.lincs_top.specs.Deliver.{Concludes}
 use Rattle.lincs_top.specs.End.{gave}
 use Rattle.lincs_top.specs.FileGives.{refusing, model_in}
-use Rattle.lincs_top.specs.Learned.{Learned, IsAnswer, TellsModel, TellsLearned, IsModelText}
+use Rattle.lincs_top.specs.Learned.{Learned, IsAnswer, TellsModel, TellsLearned}
 use Rattle.lincs_top.specs.Obeys.{CanGive, Obeys}
 use Rattle.lincs_top.specs.Size.{TakesSize}
 use Rattle.lincs_top.specs.Stop.{size_stop}

@@ -1,5 +1,5 @@
 -- What a rehearsal writes, and how its command ends.
-use Rattle.std.proofs.Common.{◌≡◌, ◌⊎◌, inl, inr, ℕ, false, List, Result, Err, refl, ap, subst}
+use Rattle.std.proofs.Common.{inl, inr, ℕ, false, List, Result, Err, refl, ap}
 use Rattle.literals_core.specs.declared.encoding.Encoding.TheVariants.{Separation}
 use Rattle.edge_core.specs.Outside.{ShelfState, SinkState}
 use Rattle.chain_core.specs.Text.{log_text}

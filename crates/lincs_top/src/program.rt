@@ -68,9 +68,7 @@ fn obey<'a, S: Shelf, O: Sink>(
             categories,
             seed,
         } => generate_problem(alloc, criteria, categories, seed, shelf, out),
-        Job::GenerateModel { problem, seed } => {
-            generate_model(alloc, problem, seed, shelf, out)
-        }
+        Job::GenerateModel { problem, seed } => { generate_model(alloc, problem, seed, shelf, out) }
         Job::GenerateTable {
             problem,
             model,

@@ -38,19 +38,14 @@ fn begins(verb: Verb, words: &[String]) -> bool
 fn verb_in(verbs: &[Verb], words: &[String]) -> Option<Verb>
     ensures { result ≡ verb_in verbs.now (texts words.now) }
 {
-    verbs
-        .iter()
-        .copied()
-        .find(|verb| begins(*verb, words))
+    verbs.iter().copied().find(|verb| begins(*verb, words))
 }
 
 // Whether some command begins with this word.
 fn begins_some(verbs: &[Verb], word: &str) -> bool
     ensures { result ≡ begins_some verbs.now word.now }
 {
-    verbs
-        .iter()
-        .any(|verb| first_word(*verb) == word)
+    verbs.iter().any(|verb| first_word(*verb) == word)
 }
 
 // The job of a command whose words have no fault, from the words after its own.

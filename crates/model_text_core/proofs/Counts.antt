@@ -1,13 +1,12 @@
 -- How many nodes the tree of a model's text has.
-use Rattle.std.proofs.Common.{◌≡◌, ℕ, zero, suc, ◌+◌, ◌*◌, ◌/◌, ◌%◌, ◌≤◌, ◌<◌, Bool, true, false, ℤ, List, [], ◌∷◌, length, map, codes, refl, sym, ap, ◌∙◌, subst, arith, Option, Some, Ok}
+use Rattle.std.proofs.Common.{◌≡◌, ℕ, zero, suc, ◌+◌, ◌*◌, ◌/◌, ◌%◌, ◌≤◌, Bool, true, false, ℤ, List, [], ◌∷◌, length, map, codes, refl, sym, ap, ◌∙◌, subst, arith, Option, Some}
 use Rattle.std.specs.Prelude.{◌==◌, All, option_map, if◌then◌else◌}
-use Rattle.std.specs.List.{AllZip}
 use Rattle.std.proofs.lemmas.List.{length-map}
 use Rattle.std.proofs.lemmas.List.Sums.{sum-map, sum_by-cons}
 use Rattle.std.proofs.lemmas.List.Elements.{All-head, All-tail, All-weaker}
 use Rattle.yaml_core.specs.declared.node.Node.{Node}
 use Rattle.yaml_core.specs.declared.node.Node.TheVariants as node
-use Rattle.yaml_core.specs.Measured.{Measured, leaf, list_node, map_node}
+use Rattle.yaml_core.specs.Measured.{Measured, list_node}
 use Rattle.yaml_core.specs.Kept.{count_of}
 use Rattle.yaml_core.specs.Size.{node_count}
 use Rattle.yaml_core.specs.Tree.{plain_node, is_null_word, text_tree}
@@ -145,8 +144,8 @@ model-count problem m p b short =
     let coalitions = coalitions-count count m.coalitions few b.coalitions short in
     let rows = b.boundaries in
     let whole = count-map ((codes "kind", word_leaf (codes "ncs-classification-model")) ∷ (codes "format_version", word_leaf (codes "1"))
-        ∷ (codes "accepted_values", list_node (accepted_measured problem.criteria m.profiles))
-        ∷ (codes "sufficient_coalitions", list_node (map (coalition_measured count) m.coalitions)) ∷ []) in
+    ∷ (codes "accepted_values", list_node (accepted_measured problem.criteria m.profiles))
+    ∷ (codes "sufficient_coalitions", list_node (map (coalition_measured count) m.coalitions)) ∷ []) in
     let kind = plain-count (codes "ncs-classification-model") in
     let version = plain-count (codes "1") in
     let first = count-list (accepted_measured problem.criteria m.profiles) in

@@ -8,6 +8,7 @@ pub mod MeasureLemmas
 pub mod KeptLemmas
 pub mod EntriesLemmas
 pub mod LineLemmas
+pub mod StartLemmas
 pub mod ContextLemmas
 pub mod StackLemmas
 pub mod TextLemmas

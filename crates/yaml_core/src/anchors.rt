@@ -12,12 +12,12 @@ use std::alloc::{AllocError, Global};
 use std::collections::BTreeMap;
 use std::marker::Model;
 use std::mem;
-use yaml_tokens::{Placed, Reached, Text, Token, next_tokens};
+use yaml_tokens::{Line, Placed, Reached, Text, Token, TokenKind, next_tokens};
 
 /// The values whose nodes ended so far, by the names of their anchors. Contracts see the list of their
-/// entries. A node is kept under its name only while the copies for all aliases together have at most
-/// [`MOST_NODES`] nodes. Past that a value is kept without its node: the text has too many nodes
-/// then, or no tree.
+/// entries. A node is kept under its name only while the copies for all aliases together, and the node
+/// with the copies for its own, have at most [`MOST_NODES`] nodes. Past that a value is kept without its
+/// node: the text has too many nodes then, or no tree.
 #[derive(Drop)]
 pub struct Names {
     named: Entries,
@@ -47,16 +47,35 @@ fn add_use(alloc: Global, uses: &mut BTreeMap<String, u32>, name: &str) -> Resul
     Ok(())
 }
 
+/// Counts the alias that the tokens begin with, if they do, and drops their first.
+fn take_use(
+    alloc: Global,
+    uses: &mut BTreeMap<String, u32>,
+    tokens: &mut Line,
+) -> Result<(), AllocError> {
+    if tokens.first_kind() != Some(TokenKind::Alias) {
+        tokens.skip();
+        return Ok(());
+    }
+    match tokens.next(alloc)? {
+        Some(
+            Placed {
+                token: Token::Alias(name),
+                column: _,
+            },
+        ) => add_use(alloc, uses, name.as_str()),
+        _ => Ok(()),
+    }
+}
+
 /// Counts the aliases in the tokens.
 fn add_uses(
     alloc: Global,
     uses: &mut BTreeMap<String, u32>,
-    tokens: &[Placed],
+    mut tokens: Line,
 ) -> Result<(), AllocError> {
-    for placed in tokens {
-        if let Token::Alias(name) = &placed.token {
-            add_use(alloc, uses, name.as_str())?;
-        }
+    for _turn in 0..tokens.len() {
+        take_use(alloc, uses, &mut tokens)?;
     }
     Ok(())
 }
@@ -78,15 +97,20 @@ pub fn uses_of_names(alloc: Global, text: &str) -> Result<BTreeMap<String, u32>,
         };
         reached = after;
         if let Some(tokens) = tokens {
-            add_uses(alloc, &mut uses, tokens.as_slice())?;
+            add_uses(alloc, &mut uses, tokens)?;
         }
     }
     Ok(uses)
 }
 
-/// What is left of `left` after so many copies of so many nodes, if it is enough.
+/// What is left of `left` after so many copies of so many nodes, if it is enough, and if the node and its copies
+/// together are within the limit.
 fn left_after(left: u32, copies: u32, nodes: u32) -> Option<u32> {
-    left.checked_sub(copies.checked_mul(nodes)?)
+    let copied = copies.checked_mul(nodes)?;
+    if copied.checked_add(nodes)? > MOST_NODES {
+        return None;
+    }
+    left.checked_sub(copied)
 }
 
 impl Names {

@@ -1,8 +1,8 @@
 //! A tree once more.
 ghost use Rattle.std.specs.Prelude.{◌≡◌, IfOk};
 
+use crate::growing::Growing;
 use crate::node::{Node, Nodes, Pair, Pairs};
-use sqlite_items::Items;
 use std::alloc::{AllocError, Global};
 use yaml_tokens::Text;
 
@@ -25,11 +25,11 @@ pub fn copy_of(alloc: Global, node: &Node) -> Result<Node, AllocError>
 fn copy_of_nodes(alloc: Global, nodes: &[Node]) -> Result<Nodes, AllocError>
     ensures { IfOk result (λ copy. copy ≡ nodes.now) }
 {
-    let mut copy = Items::new(alloc);
+    let mut copy = Growing::with_room(alloc, nodes.len())?;
     for node in nodes {
         copy.push(copy_of(alloc, node)?)?;
     }
-    Ok(copy)
+    Ok(copy.into_items())
 }
 
 /// A copy of the entries of a mapping.
@@ -37,11 +37,11 @@ fn copy_of_nodes(alloc: Global, nodes: &[Node]) -> Result<Nodes, AllocError>
 fn copy_of_pairs(alloc: Global, pairs: &[Pair]) -> Result<Pairs, AllocError>
     ensures { IfOk result (λ copy. copy ≡ pairs.now) }
 {
-    let mut copy = Items::new(alloc);
+    let mut copy = Growing::with_room(alloc, pairs.len())?;
     for pair in pairs {
         let key = Text::of(alloc, pair.key.as_str())?;
         let value = copy_of(alloc, &pair.value)?;
         copy.push(Pair { key, value })?;
     }
-    Ok(copy)
+    Ok(copy.into_items())
 }

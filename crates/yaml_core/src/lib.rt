@@ -6,6 +6,7 @@ mod blocks;
 mod copy;
 mod entries;
 mod fault;
+mod growing;
 mod inline;
 mod node;
 mod read;

@@ -10,10 +10,10 @@ ghost use Rattle.yaml_core.specs.Tree.{max_levels};
 use crate::copy::copy_of;
 use crate::entries::Entries;
 use crate::fault::YamlFault;
-use crate::node::{Node, Nodes, Pair, Pairs};
+use crate::growing::Growing;
+use crate::node::{Node, Pair};
 use crate::size::MOST_NODES;
 use crate::value_note::{Gathered, Origin, ValueNote, ValuesNote};
-use sqlite_items::Items;
 use std::alloc::{AllocError, Global};
 use std::marker::Model;
 use yaml_tokens::Text;
@@ -44,7 +44,7 @@ impl Model for Value {
 /// Values in order, while a list is read. Contracts see their list.
 #[derive(Drop)]
 pub struct Values {
-    all: Option<Nodes>,
+    all: Option<Growing<Node>>,
     levels: u8,
     nodes: u32,
     note: ValuesNote,
@@ -68,17 +68,17 @@ impl Model for Values {
 /// The pairs of a mapping as far as they are kept, with the levels and the nodes of their values.
 #[derive(Drop)]
 struct Paired {
-    all: Option<Pairs>,
+    all: Option<Growing<Pair>>,
     levels: u8,
     nodes: u32,
 }
 
 /// What was kept with one more, if that is kept too and there are at most [`MOST_NODES`] nodes.
 fn kept_with<T: Drop>(
-    all: Option<Items<T>>,
+    all: Option<Growing<T>>,
     more: Option<T>,
     nodes: u32,
-) -> Result<Option<Items<T>>, AllocError>
+) -> Result<Option<Growing<T>>, AllocError>
     ensures kept { IfOk result (λ kept. KeepsMore all more kept) }
     ensures left_out { IfOk result (λ kept. kept ≡ None → IsLeftOut all more nodes) }
 {
@@ -96,21 +96,21 @@ fn kept_with<T: Drop>(
 }
 
 /// The list of these nodes, if they are kept.
-fn list_of(nodes: Option<Nodes>) -> Option<Node>
+fn list_of(nodes: Option<Growing<Node>>) -> Option<Node>
     ensures { result ≡ option_map (λ ns. Node.List ns) nodes }
 {
     match nodes {
-        Some(nodes) => Some(Node::List(nodes)),
+        Some(nodes) => Some(Node::List(nodes.into_items())),
         None => None,
     }
 }
 
 /// The mapping of these pairs, if they are kept.
-fn map_of(pairs: Option<Pairs>) -> Option<Node>
+fn map_of(pairs: Option<Growing<Pair>>) -> Option<Node>
     ensures { result ≡ option_map (λ ps. Node.Map ps) pairs }
 {
     match pairs {
-        Some(pairs) => Some(Node::Map(pairs)),
+        Some(pairs) => Some(Node::Map(pairs.into_items())),
         None => None,
     }
 }
@@ -129,7 +129,8 @@ fn pair_of(key: Text, node: Option<Node>) -> Option<Pair>
 fn pairs_of(alloc: Global, entries: Vec<(Text, Value)>) -> Result<Paired, AllocError>
     ensures { IfOk result (λ paired. KeepsNodes paired.all paired.levels paired.nodes (map pair_of entries.items) (map (λ (e : Entry). e.1) entries.items)) }
 {
-    let mut all = Some(Items::new(alloc));
+    let none = Growing::with_room(alloc, entries.len())?;
+    let mut all = Some(none);
     let mut levels: u8 = 0;
     let mut nodes: u32 = 0;
     for (key, value) in entries {
@@ -272,7 +273,7 @@ impl Values {
         ensures { result ≡ [] }
     {
         Values {
-            all: Some(Items::new(alloc)),
+            all: Some(Growing::new(alloc)),
             levels: 0,
             nodes: 0,
             note: ValuesNote::of(&Gathered::Nothing),

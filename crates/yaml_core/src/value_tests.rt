@@ -31,8 +31,10 @@ fn named_and_got(alloc: Global, used: (&str, u32), value: Value) -> Result<Value
 }
 
 #[test]
-fn a_node_is_kept_while_its_copies_are_within_the_limit(rt: HostRuntime) -> Result<(), Fail> {
-    let most = MOST_NODES / 3;
+fn a_node_is_kept_while_it_and_its_copies_are_within_the_limit(
+    rt: HostRuntime,
+) -> Result<(), Fail> {
+    let most = MOST_NODES / 3 - 1;
     let value = named_and_got(rt.alloc(), ("name", most), two(rt.alloc(), "x", "y")?)?;
     let kept = value.into_node().is_ok();
     assert!(rt; kept);

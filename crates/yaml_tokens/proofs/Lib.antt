@@ -2,6 +2,7 @@ pub mod FaultLemmas
 pub mod PlainLemmas
 pub mod LexerLemmas
 pub mod LinesLemmas
+pub mod PackedLemmas
 pub mod QuotesLemmas
 pub mod NameLemmas
 pub mod WrittenLemmas

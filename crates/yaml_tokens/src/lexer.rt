@@ -252,7 +252,7 @@ pub fn tokens_of(alloc: Global, start: usize, line: &str) -> Result<(Line, usize
         let column = line.len() - rest.len();
         let (token, taken, after) = token_at(alloc, depth, before, rest)?;
         before = seen(before, &token);
-        tokens.push(Placed { column, token })?;
+        tokens = tokens.push(Placed { column, token })?;
         depth = after;
         spaced = false;
         rest = &rest[taken..];

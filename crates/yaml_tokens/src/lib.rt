@@ -17,5 +17,5 @@ pub use fault::TokenFault;
 pub use line::Line;
 pub use lines::{Reached, next_tokens, without_mark};
 pub use text::Text;
-pub use token::{Placed, Token};
+pub use token::{Placed, Token, TokenKind};
 pub use written::{put_quoted, quoted_text_reads_back};

@@ -17,7 +17,7 @@ returns-then-column_of-least c =
     let tokens = c.in-Part.tokens in
     let least = c.in-Part.least in
     let anchor = c.in-Part.anchor in
-    let column : c.column_of.result ≡ indentation line = c.column_of.ensures ∙ ap indentation c.as_slice.ensures in
+    let column : c.column_of.result ≡ indentation line = c.column_of.ensures in
     let less : indentation line < least = omega arith in
     λ ls names. own-child fs c.args.at_key c.args.child (Part tokens least anchor) line c.in-Part.is c.requires.room c.requires.opens c.requires.dash ls names
     ∙ around-nothing fs (λ own. named_as anchor (lines_of_part d tokens least (line ∷ own))) c.requires.room
@@ -30,17 +30,17 @@ returns-in-Open c =
     keeps-alike c.open.result (around fs (opened_lines fs anchor c.args.line)) (λ ls. around fs (child_lines (levels_left fs) c.args.child) (c.args.line ∷ ls))
     (λ ls names. sym (own-child fs c.args.at_key c.args.child (Open anchor) c.args.line c.in-Open.is c.requires.room c.requires.opens c.requires.dash ls names)) c.open.ensures
 
-pub returns-in_ok-append-in-Part : goal.returns-in_ok-append-in-Part
-returns-in_ok-append-in-Part c =
+pub returns-in_ok-tokens-in-Part : goal.returns-in_ok-tokens-in-Part
+returns-in_ok-tokens-in-Part c =
     let fs = c.args.frames.items in
     let line = c.args.line in
     let d = levels_left fs in
     let tokens = c.in-Part.tokens in
     let least = c.in-Part.least in
     let anchor = c.in-Part.anchor in
-    let column : c.column_of.result ≡ indentation line = c.column_of.ensures ∙ ap indentation c.as_slice.ensures in
+    let column : c.column_of.result ≡ indentation line = c.column_of.ensures in
     let enough : least ≤ indentation line = omega arith in
-    let joined : c.append.new.self ≡ tokens ++ line = c.in_ok-append-in-Part.ensures in (
+    let joined : c.in_ok-tokens-in-Part.tokens ≡ tokens ++ line = c.in_ok-tokens-in-Part.ensures in (
       c.requires.room,
       λ ls names. (λ i. around fs (λ own. named_as anchor (lines_of_part d (joined i) least own)) ls names)
           ∙ sym (λ i. around fs (λ own. named_as anchor (part-more d tokens least line own enough i)) ls names)

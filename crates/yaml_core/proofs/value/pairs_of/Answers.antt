@@ -10,7 +10,7 @@ use Rattle.yaml_core.proofs.value.pairs_of.Goals as goal
 pub loop-key-init : goal.loop-key-init
 loop-key-init c =
     let given = c.into_iter-key-iterator.ensures.into_iter_gives in
-    ([], given.0, omega (arith, given.1, ap length given.0, c.args.entries.ok.0), record { all = c.new.ensures; levels = refl; nodes = refl; sound = tt })
+    ([], given.0, omega (arith, given.1, ap length given.0, c.args.entries.ok.0), record { all = c.in_ok-none.ensures; levels = refl; nodes = refl; sound = tt })
 
 pub loop-key-preserved : goal.loop-key-preserved
 loop-key-preserved c =

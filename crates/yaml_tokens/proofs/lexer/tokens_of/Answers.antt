@@ -68,7 +68,7 @@ loop-turn-preserved c =
     let takes = c.in_ok-token.ensures.1 in
     let rest = c.range_from-rest-in-loop-turn.result.now in
     let shorter : length rest + taken ≡ length s = omega (arith, ap length c.range_from-rest-in-loop-turn.ensures.value, length-drop taken s, takes.within) in
-    let pushed = c.in_ok-push.ensures.ok in
+    let pushed = c.in_ok-tokens.ensures in
     let column = length line - length s in
     let placed : Placed = record { column = column; token = c.in_ok-token.token } in
     let x : Lexed = record { token = c.in_ok-token.token; rest = drop taken s; depth = c.in_ok-token.after } in
