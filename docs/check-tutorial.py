@@ -4,8 +4,8 @@
     docs/check-tutorial.py [--fill] PROGRAM [DOCUMENT ..]
 
 PROGRAM is the built program. Without documents, README.md and docs/USERS.md are run. The commands are the lines that
-begin with '$ ' in blocks of the kind `console`; the lines below a command, up to the next one or the end of the block, are
-what it must write, output and error output together. A line '...' stands for any lines. `echo $?` writes the status of the
+begin with '$ ' in blocks of the kind `console`, with the lines that begin with '> ' right below. The lines after that, up
+to the next command or the end of the block, are what it must write, output and error output together. A line '...' stands for any lines. `echo $?` writes the status of the
 command before it.
 
 The commands of a document run in one new folder, in their order. It begins as a copy of the folder that a comment
@@ -61,7 +61,7 @@ def parts_of(text):
         elif kind == 'console' and line.startswith('$ '):
             parts.append((line[2:], []))
             command = True
-        elif command and parts[-1][0].endswith('\\') and line.startswith('> '):
+        elif command and line.startswith('> ') and not parts[-1][1]:
             parts[-1] = (parts[-1][0] + '\n' + line[2:], [])
         else:
             parts[-1][1].append(line)
