@@ -5,7 +5,7 @@
 
 PROGRAM is the built program. Without documents, README.md and docs/USERS.md are run. The commands are the lines that
 begin with '$ ' in blocks of the kind `console`, with the lines that begin with '> ' right below. The lines after that, up
-to the next command or the end of the block, are what it must write, output and error output together. A line '...' stands for any lines. `echo $?` writes the status of the
+to the next command or the end of the block, are what it must write, output and error output together. A line '...' matches any lines. `echo $?` writes the status of the
 command before it.
 
 The commands of a document run in one new folder, in their order. It begins as a copy of the folder that a comment
@@ -42,7 +42,7 @@ def missing_programs(command):
 
 
 def matches(wanted, written):
-    """Whether the written lines are the wanted ones, '...' standing for any lines."""
+    """Whether the written lines are the wanted ones; a line '...' matches any lines."""
     if not wanted:
         return not written
     if wanted[0] == '...':
