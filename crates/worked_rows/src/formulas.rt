@@ -1,22 +1,106 @@
 //! Worked rows of `encode` and `check-refutation`.
-use crate::session::{MODEL, PROBLEM, runs, shelf};
+use crate::session::{MODEL, PROBLEM, PROBLEM_OF_THREE, PROBLEM_OF_TWO, runs, shelf};
 use lincs_top::Status;
 use std::test::Fail;
 
 /// The worse of two rows is in the better category.
 const WORSE_IS_GOOD: &str = "name,Speed,category\ng,3,Good\nb,7,Bad\n";
 
+/// Two rows with the same grade in two categories.
+const SAME_GRADE: &str = "name,Speed,category\na,5,Bad\nb,5,Good\n";
+
 #[test]
 fn the_formula_of_examples_is_written(rt: HostRuntime) -> Result<(), Fail> {
-    let mut shelf = shelf(rt.alloc(), PROBLEM, MODEL, WORSE_IS_GOOD)?;
-    let formula = "p cnf 3 4\n-1 2 0\n-3 1 0\n-3 -2 0\n3 0\n";
+    for (problem, table, encoding, formula) in [
+        (
+            PROBLEM,
+            WORSE_IS_GOOD,
+            "separation",
+            "p cnf 3 4\n-1 2 0\n-3 1 0\n-3 -2 0\n3 0\n",
+        ),
+        (
+            PROBLEM,
+            SAME_GRADE,
+            "separation",
+            "p cnf 2 3\n-2 1 0\n-2 -1 0\n2 0\n",
+        ),
+        (
+            PROBLEM,
+            "name,Speed,category\na,3,Bad\nb,7,Good\n",
+            "coalitions",
+            "p cnf 4 6\n-1 2 0\n-3 4 0\n-3 0\n-1 -4 0\n4 0\n2 3 0\n",
+        ),
+        (
+            PROBLEM_OF_TWO,
+            "name,U,V,category\ng,1,0,Good\nb,1,1,Bad\n",
+            "separation",
+            "p cnf 5 6\n-2 3 0\n-4 1 0\n-4 -1 0\n-5 2 0\n-5 -3 0\n4 5 0\n",
+        ),
+        (
+            PROBLEM_OF_THREE,
+            "name,Speed,category\na,5,Mid\n",
+            "separation",
+            "p cnf 3 4\n-2 1 0\n-3 1 0\n-3 -2 0\n3 0\n",
+        ),
+    ] {
+        let mut shelf = shelf(rt.alloc(), problem, MODEL, table)?;
+        let line = format!(in rt.alloc(); "encode P.yml A.csv --encoding {encoding}")?;
+        let want = (Status::Done, formula, "");
+        runs(&rt, rt.alloc(), line.as_str(), &mut shelf, want)?;
+    }
+    Ok(())
+}
+
+#[test]
+fn a_formula_that_is_too_large_is_named_by_its_literals(rt: HostRuntime) -> Result<(), Fail> {
+    let mut table = String::from_str(rt.alloc(), "name,Speed,category\n")?;
+    for _ in 0..2_591 {
+        table.push_str("g,5,Good\nb,5,Bad\n")?;
+    }
+    let mut shelf = shelf(rt.alloc(), PROBLEM, MODEL, table.as_str())?;
+    let large = "lincs: too large: 33566405 literals\n";
+    let line = "encode P.yml A.csv --encoding separation";
     runs(
         &rt,
         rt.alloc(),
-        "encode P.yml A.csv --encoding separation",
+        line,
         &mut shelf,
-        (Status::Done, formula, ""),
+        (Status::TooLarge, "", large),
     )
+}
+
+// The second line of a refutation of the formula of the same grade in two categories.
+#[test]
+fn each_second_line_is_judged_by_its_first_fault(rt: HostRuntime) -> Result<(), Fail> {
+    let rejected = "lincs: refutation rejected: ";
+    let refused = "lincs: R.txt: log 2 at line 2\n";
+    for (second, status, out, cause) in [
+        ("4 0 3 1 2 0\n", Status::Done, "accepted\n", ""),
+        ("4 0 1 3 1 2 0\n", Status::No, "", "4 at line 2\n"),
+        ("5 0 3 1 2 0\n", Status::No, "", "1 at line 2\n"),
+        ("4 3 0 3 0\n", Status::No, "", "2 at line 2\n"),
+        ("4 0 4 0\n", Status::No, "", "3 at line 2\n"),
+        ("4 0 3 1 0\n", Status::No, "", "4 at line 2\n"),
+        ("4 0 4294967295 0\n", Status::No, "", "3 at line 2\n"),
+        ("4 2147483647 0 3 0\n", Status::No, "", "2 at line 2\n"),
+        ("", Status::No, "", "5\n"),
+        ("4 0 4294967296 0\n", Status::Refused, "", refused),
+        ("4 2147483648 0 3 0\n", Status::Refused, "", refused),
+        ("4 0 3 1 2 0", Status::Refused, "", refused),
+        ("4 0 3 1 2\n", Status::Refused, "", refused),
+    ] {
+        let text = format!(in rt.alloc(); "lincs-refutation 1 separation\n{second}")?;
+        let mut shelf = shelf(rt.alloc(), PROBLEM, MODEL, SAME_GRADE)?;
+        shelf.add("R.txt", text.as_bytes())?;
+        let cause = match status {
+            Status::No => format!(in rt.alloc(); "{rejected}{cause}")?,
+            _ => String::from_str(rt.alloc(), cause)?,
+        };
+        let line = "check-refutation P.yml A.csv R.txt";
+        let want = (status, out, cause.as_str());
+        runs(&rt, rt.alloc(), line, &mut shelf, want)?;
+    }
+    Ok(())
 }
 
 #[test]
