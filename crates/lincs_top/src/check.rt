@@ -54,7 +54,8 @@ pub fn check_refutation<'a, S: Shelf, O: Sink>(
     requires problem { IsTrue ((S.state shelf.old).may_open problem.now) }
     requires table { IsTrue ((S.state shelf.old).may_open table.now) }
     requires refutation { IsTrue ((S.state shelf.old).may_open refutation.now) }
-    ensures { Obeys (checking problem.now table.now refutation.now) (S.state shelf.old) (S.state shelf.new) (O.state out.old) (O.state out.new) result }
+    ensures { Obeys (checking problem.now table.now refutation.now)
+        (S.state shelf.old) (S.state shelf.new) (O.state out.old) (O.state out.new) result }
 {
     let criteria = problem_of_file(alloc, shelf, problem)?;
     let rows = examples_of_file(alloc, &criteria, shelf, table)?;

@@ -54,7 +54,8 @@ pub fn classify<'a, S: Shelf, O: Sink>(
     requires problem { IsTrue ((S.state shelf.old).may_open problem.now) }
     requires model { IsTrue ((S.state shelf.old).may_open model.now) }
     requires table { IsTrue ((S.state shelf.old).may_open table.now) }
-    ensures { Obeys (classifying problem.now model.now table.now) (S.state shelf.old) (S.state shelf.new) (O.state out.old) (O.state out.new) result }
+    ensures { Obeys (classifying problem.now model.now table.now)
+        (S.state shelf.old) (S.state shelf.new) (O.state out.old) (O.state out.new) result }
 {
     let criteria = problem_of_file(alloc, shelf, problem)?;
     let rule = model_of_file(alloc, &criteria, shelf, model)?;

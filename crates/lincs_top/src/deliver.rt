@@ -10,7 +10,8 @@ use std::alloc::AllocError;
 
 /// Returns what a command comes to once its output was sent: its verdict, or that the output failed.
 pub fn concluded<'a>(sent: Result<(), Failed>, verdict: Verdict) -> Result<Verdict, Stop<'a>>
-    ensures { (old new : SinkState) (text : List ℕ) → Sends old new text sent → Concludes false (gave verdict) text old new result }
+    ensures { (old new : SinkState) (text : List ℕ) → Sends old new text sent
+        → Concludes false (gave verdict) text old new result }
 {
     match sent {
         Ok(()) => Ok(verdict),
@@ -36,7 +37,8 @@ pub fn deliver<'a, O: Sink>(
     text: Result<Vec<u8>, AllocError>,
     verdict: Verdict,
 ) -> Result<Verdict, Stop<'a>>
-    ensures { (bytes : List ℕ) → MakesText bytes text → Concludes false (gave verdict) bytes (O.state out.old) (O.state out.new) result }
+    ensures { (bytes : List ℕ) → MakesText bytes text
+        → Concludes false (gave verdict) bytes (O.state out.old) (O.state out.new) result }
 {
     let Ok(text) = text else {
         return Err(Stop::NoMemory);

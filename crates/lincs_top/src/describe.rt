@@ -64,7 +64,8 @@ pub fn tell_problem<'a, S: Shelf, O: Sink>(
     out: &mut O,
 ) -> Result<Verdict, Stop<'a>>
     requires { IsTrue ((S.state shelf.old).may_open problem.now) }
-    ensures { Obeys (describing_problem problem.now) (S.state shelf.old) (S.state shelf.new) (O.state out.old) (O.state out.new) result }
+    ensures { Obeys (describing_problem problem.now)
+        (S.state shelf.old) (S.state shelf.new) (O.state out.old) (O.state out.new) result }
 {
     let criteria = problem_of_file(alloc, shelf, problem)?;
     deliver(out, problem_text(alloc, &criteria), Verdict::Done)
@@ -80,7 +81,8 @@ pub fn tell_model<'a, S: Shelf, O: Sink>(
 ) -> Result<Verdict, Stop<'a>>
     requires problem { IsTrue ((S.state shelf.old).may_open problem.now) }
     requires model { IsTrue ((S.state shelf.old).may_open model.now) }
-    ensures { Obeys (describing_model problem.now model.now) (S.state shelf.old) (S.state shelf.new) (O.state out.old) (O.state out.new) result }
+    ensures { Obeys (describing_model problem.now model.now)
+        (S.state shelf.old) (S.state shelf.new) (O.state out.old) (O.state out.new) result }
 {
     let criteria = problem_of_file(alloc, shelf, problem)?;
     let rule = model_of_file(alloc, &criteria, shelf, model)?;
@@ -98,7 +100,8 @@ pub fn tell_table<'a, S: Shelf, O: Sink>(
 ) -> Result<Verdict, Stop<'a>>
     requires problem { IsTrue ((S.state shelf.old).may_open problem.now) }
     requires table { IsTrue ((S.state shelf.old).may_open table.now) }
-    ensures { Obeys (describing_table problem.now table.now) (S.state shelf.old) (S.state shelf.new) (O.state out.old) (O.state out.new) result }
+    ensures { Obeys (describing_table problem.now table.now)
+        (S.state shelf.old) (S.state shelf.new) (O.state out.old) (O.state out.new) result }
 {
     let criteria = problem_of_file(alloc, shelf, problem)?;
     let rows = table_of_file(alloc, &criteria, shelf, table)?;

@@ -24,7 +24,8 @@ pub fn write_formula<'a, S: Shelf, O: Sink>(
 ) -> Result<Verdict, Stop<'a>>
     requires problem { IsTrue ((S.state shelf.old).may_open problem.now) }
     requires table { IsTrue ((S.state shelf.old).may_open table.now) }
-    ensures { Obeys (encoding problem.now table.now how) (S.state shelf.old) (S.state shelf.new) (O.state out.old) (O.state out.new) result }
+    ensures { Obeys (encoding problem.now table.now how)
+        (S.state shelf.old) (S.state shelf.new) (O.state out.old) (O.state out.new) result }
 {
     let criteria = problem_of_file(alloc, shelf, problem)?;
     let rows = examples_of_file(alloc, &criteria, shelf, table)?;

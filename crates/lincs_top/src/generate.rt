@@ -41,7 +41,8 @@ fn drawn_problem_text(
 }
 
 fn drawn_model_text(alloc: Global, problem: &Problem, seed: u64) -> Result<Vec<u8>, AllocError>
-    ensures { MakesText (model_text problem.now (drawn_model problem.now (words_of (seeded seed) (model_words problem.now)))) result }
+    ensures { MakesText
+        (model_text problem.now (drawn_model problem.now (words_of (seeded seed) (model_words problem.now)))) result }
 {
     let model = draw_model(alloc, problem, seed)?;
     let mut text = Vec::new(alloc);
@@ -79,7 +80,8 @@ pub fn generate_problem<'a, S: Shelf, O: Sink>(
     requires few_criteria { criteria ≤ 16 }
     requires some_categories { 2 ≤ categories }
     requires few_categories { categories ≤ 10 }
-    ensures { Obeys (generating_problem criteria categories seed) (S.state shelf.old) (S.state shelf.new) (O.state out.old) (O.state out.new) result }
+    ensures { Obeys (generating_problem criteria categories seed)
+        (S.state shelf.old) (S.state shelf.new) (O.state out.old) (O.state out.new) result }
 {
     let text = drawn_problem_text(alloc, criteria, categories, seed);
     deliver(out, text, Verdict::Done)
@@ -94,14 +96,15 @@ pub fn generate_model<'a, S: Shelf, O: Sink>(
     out: &mut O,
 ) -> Result<Verdict, Stop<'a>>
     requires { IsTrue ((S.state shelf.old).may_open problem.now) }
-    ensures { Obeys (generating_model problem.now seed) (S.state shelf.old) (S.state shelf.new) (O.state out.old) (O.state out.new) result }
+    ensures { Obeys (generating_model problem.now seed)
+        (S.state shelf.old) (S.state shelf.new) (O.state out.old) (O.state out.new) result }
 {
     let criteria = problem_of_file(alloc, shelf, problem)?;
     deliver(out, drawn_model_text(alloc, &criteria, seed), Verdict::Done)
 }
 
-/// Writes a table of so many drawn rows with the categories that the model of a file gives them. Both files are read and
-/// accepted before.
+/// Writes a table of so many drawn rows with the categories that the model of a file gives them. Both files are read
+/// and accepted before.
 pub fn generate_table<'a, S: Shelf, O: Sink>(
     alloc: Global,
     problem: &'a str,
@@ -114,7 +117,8 @@ pub fn generate_table<'a, S: Shelf, O: Sink>(
     requires problem { IsTrue ((S.state shelf.old).may_open problem.now) }
     requires model { IsTrue ((S.state shelf.old).may_open model.now) }
     requires few { rows ≤ 100000 }
-    ensures { Obeys (generating_table problem.now model.now rows seed) (S.state shelf.old) (S.state shelf.new) (O.state out.old) (O.state out.new) result }
+    ensures { Obeys (generating_table problem.now model.now rows seed)
+        (S.state shelf.old) (S.state shelf.new) (O.state out.old) (O.state out.new) result }
 {
     let criteria = problem_of_file(alloc, shelf, problem)?;
     let rule = model_of_file(alloc, &criteria, shelf, model)?;

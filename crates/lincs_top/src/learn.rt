@@ -82,9 +82,9 @@ fn write_answer<'a, O: Sink>(
     }
 }
 
-/// Learns a model from the examples of a table, by the formula of an encoding and with at most so many lemmas of search.
-/// Both files are read and accepted before, and the formula is not too large. The output is the model, or a refutation
-/// and the verdict `No`, or the lemmas so far and the verdict `Limit`.
+/// Learns a model from the examples of a table, by the formula of an encoding and with at most so many lemmas of
+/// search. Both files are read and accepted before, and the formula is not too large. The output is the model, or a
+/// refutation and the verdict `No`, or the lemmas so far and the verdict `Limit`.
 pub fn learn_model<'a, S: Shelf, O: Sink>(
     alloc: Global,
     problem: &'a str,
@@ -98,7 +98,8 @@ pub fn learn_model<'a, S: Shelf, O: Sink>(
     requires table { IsTrue ((S.state shelf.old).may_open table.now) }
     requires least { 1 ≤ most }
     requires limit { most ≤ 1000000 }
-    ensures { Obeys (learning problem.now table.now how most) (S.state shelf.old) (S.state shelf.new) (O.state out.old) (O.state out.new) result }
+    ensures { Obeys (learning problem.now table.now how most)
+        (S.state shelf.old) (S.state shelf.new) (O.state out.old) (O.state out.new) result }
 {
     let criteria = problem_of_file(alloc, shelf, problem)?;
     let rows = examples_of_file(alloc, &criteria, shelf, table)?;

@@ -71,7 +71,8 @@ fn say_numbered<E: Sink>(
     kind: &str,
     fault: FaultNumber,
 ) -> Result<(), Failed>
-    ensures { Sends (E.state err.old) (E.state err.new) (about name.now (numbered kind.now fault.code fault.place)) result }
+    ensures { Sends (E.state err.old) (E.state err.new)
+        (about name.now (numbered kind.now fault.code fault.place)) result }
 {
     let (kind, code) = (Part::Text(kind), Part::Number(fault.code));
     match fault.place {

@@ -31,7 +31,8 @@ fn obey<'a, S: Shelf, O: Sink>(
 ) -> Result<Verdict, Stop<'a>>
     requires names { MayOpen (S.state shelf.old) (command_of job) }
     requires ranges { HasItsRanges (command_of job) }
-    ensures { Obeys (command_of job.entry) (S.state shelf.old) (S.state shelf.new) (O.state out.old) (O.state out.new) result }
+    ensures { Obeys (command_of job.entry)
+        (S.state shelf.old) (S.state shelf.new) (O.state out.old) (O.state out.new) result }
 {
     match job {
         Job::Classify {
@@ -92,7 +93,8 @@ fn do_line<'a, S: Shelf, O: Sink>(
     out: &mut O,
 ) -> Result<Verdict, Stop<'a>>
     requires { MayOpenIn (S.state shelf.old) (line_gives (texts words.now)) }
-    ensures { DoesLine (line_gives (texts words.now)) (S.state shelf.old) (S.state shelf.new) (O.state out.old) (O.state out.new) result }
+    ensures { DoesLine (line_gives (texts words.now))
+        (S.state shelf.old) (S.state shelf.new) (O.state out.old) (O.state out.new) result }
 {
     match read_line(words) {
         Ok(job) => obey(alloc, job, shelf, out),
@@ -118,10 +120,14 @@ pub fn run<S: Shelf, O: Sink, E: Sink>(
         (O.state out.old) (O.state out.new) (E.state err.old) (E.state err.new) result }
 
     // The headline: what a status says of told files and of what was written.
-    ensures sorted { result ≡ Status.Done → Sorts (line_gives (texts words.now)) (S.state shelf.old) (O.state out.old) (O.state out.new) }
-    ensures model { result ≡ Status.Done → FindsModel (line_gives (texts words.now)) (S.state shelf.old) (O.state out.old) (O.state out.new) }
-    ensures refutation { result ≡ Status.No → WritesRefutation (line_gives (texts words.now)) (S.state shelf.old) (O.state out.old) (O.state out.new) }
-    ensures lemmas { result ≡ Status.Limit → WritesLemmas (line_gives (texts words.now)) (S.state shelf.old) (O.state out.old) (O.state out.new) }
+    ensures sorted { result ≡ Status.Done →
+        Sorts (line_gives (texts words.now)) (S.state shelf.old) (O.state out.old) (O.state out.new) }
+    ensures model { result ≡ Status.Done →
+        FindsModel (line_gives (texts words.now)) (S.state shelf.old) (O.state out.old) (O.state out.new) }
+    ensures refutation { result ≡ Status.No →
+        WritesRefutation (line_gives (texts words.now)) (S.state shelf.old) (O.state out.old) (O.state out.new) }
+    ensures lemmas { result ≡ Status.Limit →
+        WritesLemmas (line_gives (texts words.now)) (S.state shelf.old) (O.state out.old) (O.state out.new) }
     ensures accepted { result ≡ Status.Done → Accepts (line_gives (texts words.now)) (S.state shelf.old) }
 
     // What follows from the report.

@@ -38,7 +38,8 @@ fn rehearsal_of<'a>(
     ensures size { TakesSize Separation (rehearsed_task criteria categories rows seed) result }
     ensures learned { IfOk result (IfLearned
         (IsSummary (rehearsed_problem criteria categories seed) (rehearsed_examples criteria categories rows seed))) }
-    ensures at_limit { IfOk result (IfLimit (IsAtLimit (formula_of Separation (rehearsed_task criteria categories rows seed)) 100000)) }
+    ensures at_limit { IfOk result (IfLimit
+        (IsAtLimit (formula_of Separation (rehearsed_task criteria categories rows seed)) 100000)) }
 {
     match rehearse(alloc, criteria, categories, rows, seed) {
         Ok(rehearsal) => Ok(rehearsal),
@@ -48,7 +49,8 @@ fn rehearsal_of<'a>(
 
 // Writes what a rehearsal came to: its summary, or the log at the limit.
 fn write_rehearsal<'a, O: Sink>(rehearsal: &Rehearsal, out: &mut O) -> Result<Verdict, Stop<'a>>
-    ensures { (problem : ProblemValue) (examples : List Example) → IfLearned (IsSummary problem examples) rehearsal.now
+    ensures { (problem : ProblemValue) (examples : List Example)
+        → IfLearned (IsSummary problem examples) rehearsal.now
         → IfLimit (IsAtLimit (formula_of Separation (task_of problem examples)) 100000) rehearsal.now
         → TellsRehearsed problem examples (O.state out.old) (O.state out.new) result }
 {
@@ -61,8 +63,8 @@ fn write_rehearsal<'a, O: Sink>(rehearsal: &Rehearsal, out: &mut O) -> Result<Ve
     }
 }
 
-/// Draws a problem, a model and rows, learns a model from these rows, and writes a summary; or the lemmas so far, at the
-/// limit of the search. The formula of the rows is not too large. No file is opened.
+/// Draws a problem, a model and rows, learns a model from these rows, and writes a summary; or the lemmas so far, at
+/// the limit of the search. The formula of the rows is not too large. No file is opened.
 pub fn rehearse_once<'a, S: Shelf, O: Sink>(
     alloc: Global,
     criteria: u32,
@@ -77,7 +79,8 @@ pub fn rehearse_once<'a, S: Shelf, O: Sink>(
     requires some_categories { 2 ≤ categories }
     requires few_categories { categories ≤ 10 }
     requires few_rows { rows ≤ 10000 }
-    ensures { Obeys (rehearsing criteria categories rows seed) (S.state shelf.old) (S.state shelf.new) (O.state out.old) (O.state out.new) result }
+    ensures { Obeys (rehearsing criteria categories rows seed)
+        (S.state shelf.old) (S.state shelf.new) (O.state out.old) (O.state out.new) result }
 {
     let rehearsal = rehearsal_of(alloc, criteria, categories, rows, seed)?;
     write_rehearsal(&rehearsal, out)

@@ -11,7 +11,8 @@ use problem_core::{Grade, Problem};
 pub fn category_name<'a>(problem: &'a Problem, model: &Model, grades: &[Grade]) -> &'a str
     requires belongs { Belongs problem.now model.now }
     requires grades { length grades.now ≡ length problem.now.criteria }
-    ensures { slice_get problem.now.categories (category (rule_of problem.now model.now) grades.now) ≡ Some result.now }
+    ensures { slice_get problem.now.categories (category (rule_of problem.now model.now) grades.now)
+        ≡ Some result.now }
 {
     problem.category(sort(problem, model, grades))
 }
