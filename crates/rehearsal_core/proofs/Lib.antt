@@ -1,3 +1,2 @@
-pub mod Weighted
 pub mod DrawnFacts
 pub mod SummaryFacts

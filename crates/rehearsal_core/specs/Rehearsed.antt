@@ -31,11 +31,13 @@ rehearsed_model criteria categories seed = let problem = rehearsed_problem crite
 -- the rows that the seed after that draws, as examples of this model
 unfoldable pub rehearsed_examples : ℕ → ℕ → ℕ → ℕ → List Example
 rehearsed_examples criteria categories rows seed = let problem = rehearsed_problem criteria categories seed in
-    drawn_examples problem (rule_of problem (rehearsed_model criteria categories seed)) rows (words_of (seeded (seed_after seed 2)) (rows * length problem.criteria))
+    drawn_examples problem (rule_of problem (rehearsed_model criteria categories seed)) rows
+    (words_of (seeded (seed_after seed 2)) (rows * length problem.criteria))
 
 -- what is to be learned from them
 abbrev pub rehearsed_task : ℕ → ℕ → ℕ → ℕ → Task
-rehearsed_task criteria categories rows seed = task_of (rehearsed_problem criteria categories seed) (rehearsed_examples criteria categories rows seed)
+rehearsed_task criteria categories rows seed =
+    task_of (rehearsed_problem criteria categories seed) (rehearsed_examples criteria categories rows seed)
 
 -- a line of a word and a number
 abbrev pub number_line : List ℕ → ℕ → List ℕ
@@ -61,8 +63,8 @@ summary_text problem examples model =
     ++ (restored_line (restored_count (rule_of problem model) examples) (length examples)
     ++ model_text problem model)
 
--- The summary of a model that belongs to the problem, is in rebuilt form and restores the examples. The text of the model
--- reads back as that model.
+-- The summary of a model that belongs to the problem, is in rebuilt form and restores the examples. The text of the
+-- model reads back as that model.
 pub record IsSummary (problem : ProblemValue) (examples : List Example) (text : List ℕ) : Type 0 where
   pub model : ModelValue
   pub is : text ≡ summary_text problem examples model

@@ -6,22 +6,31 @@ mod summary;
 #[cfg(test)]
 mod tests;
 
-ghost use Rattle.std.specs.Prelude.{◌≡◌, ◌-◌, ℕ, ℤ, pos, int_lt, false, List, All, length, map, replicate};
-ghost use Rattle.sorting_rule.specs.Coalition.{weights};
-ghost use Rattle.sorting_rule.specs.Examples.{Example, HasNoModel, HasOrderedThresholds, Restores};
-ghost use Rattle.sorting_rule.specs.Model.{Model, Profile};
-ghost use Rattle.sorting_rule.specs.Preference.{Direction};
+ghost use Rattle.std.specs.Prelude.{◌≡◌, ◌++◌, ℕ, List, length};
+ghost use Rattle.sorting_rule.specs.Examples.{Example};
+ghost use Rattle.problem_core.specs.Problem.{ProblemValue};
+ghost use Rattle.model_core.specs.Model.{ModelValue};
+ghost use Rattle.model_text_core.specs.ModelText.{model_text};
+ghost use Rattle.rehearsal_core.specs.Rehearsed.{counts_text, restored_line, IsSummary};
+ghost use Rattle.rehearsal_core.specs.Rehearsed.{rehearsed_examples, rehearsed_problem};
 
 pub use learn_core::LearnFault;
 pub use rehearsal::{MOST_LEMMAS, Rehearsal, rehearse};
 
-/// A law, with no code: if a model with the same weights at each boundary, none of them negative, and with ordered
-/// thresholds restores the examples, then it isn't so that no model restores them. The sets that are heavy enough are an
-/// upward-closed family, and the model with this family gives the same categories.
-pub fn weighted_model_is_a_model()
-    ensures { (directions : List Direction) (categories : ℕ) (examples : List Example) (profiles : List Profile) (ws : List ℤ)
-        → map (λ p. p.direction) profiles ≡ directions → All (λ p. length p.thresholds ≡ categories - 1) profiles
-        → All (λ w. int_lt w (pos 0) ≡ false) ws
-        → let m : Model = record { profiles = profiles; coalitions = replicate (categories - 1) (weights ws) } in
-        HasOrderedThresholds m → Restores m examples → ¬ HasNoModel directions categories examples }
+/// A law, with no code: each summary of examples says that all of them are restored. So whichever model is learned, the
+/// lines before it are the same.
+pub fn summary_says_that_all_are_restored()
+    ensures { (problem : ProblemValue) (examples : List Example) (text : List ℕ) → IsSummary problem examples text
+        → (model : ModelValue) × (text ≡ counts_text problem examples
+        ++ (restored_line (length examples) (length examples) ++ model_text problem model)) }
+{}
+
+/// A law: what is drawn has as many criteria, categories and rows as asked. So the first lines of the summary say these
+/// numbers.
+pub fn rehearsals_are_as_large_as_asked()
+    ensures criteria { (criteria categories seed : ℕ)
+        → length (rehearsed_problem criteria categories seed).criteria ≡ criteria }
+    ensures categories { (criteria categories seed : ℕ)
+        → length (rehearsed_problem criteria categories seed).categories ≡ categories }
+    ensures rows { (criteria categories rows seed : ℕ) → length (rehearsed_examples criteria categories rows seed) ≡ rows }
 {}

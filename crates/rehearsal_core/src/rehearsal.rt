@@ -6,6 +6,7 @@ ghost use Rattle.problem_core.specs.Problem.{IsProblem};
 ghost use Rattle.table_core.specs.Examples.{BelongTo};
 ghost use Rattle.encoding_rules.specs.Encodings.{formula_of, HasFormula};
 ghost use Rattle.ranks_core.specs.Ranks.{task_of};
+ghost use Rattle.search_core.specs.Bounds.{PropagationEnds};
 ghost use Rattle.search_core.specs.Outcomes.{IsAtLimit};
 ghost use Rattle.learn_core.specs.Learning.{LearnFaultOf};
 ghost use Rattle.rehearsal_core.specs.Outcome.{IfLearned, IfLimit};
@@ -43,7 +44,10 @@ fn learn_again(
     requires some_model { let task = task_of problem.now examples.now in
         ¬ HasNoModel task.directions task.categories task.examples }
     ensures learned { IfOk result (IfLearned (IsSummary problem.now examples.now)) }
-    ensures at_limit { IfOk result (IfLimit (IsAtLimit (formula_of Separation (task_of problem.now examples.now)) 100000)) }
+    ensures at_limit { let formula = formula_of Separation (task_of problem.now examples.now) in
+        IfOk result (IfLimit (IsAtLimit formula 100000)) }
+    ensures undecided { let formula = formula_of Separation (task_of problem.now examples.now) in
+        IfOk result (IfLimit (λ _. ¬ PropagationEnds formula)) }
     ensures small { OnOk result (HasFormula Separation (task_of problem.now examples.now)) }
     ensures fault { IfErr result (LearnFaultOf Separation (task_of problem.now examples.now)) }
 {
@@ -58,15 +62,16 @@ fn learn_again(
     }
 }
 
-/// Draws a problem from a seed, a model for it from the next seed, and rows with the model's categories from the one after
-/// that, and learns a model from these rows alone. The search may make 100,000 lemmas. Equal numbers draw equal rows on
-/// every machine. After the last seed of 64 bits comes 0.
+/// Draws a problem from a seed, a model for it from the next seed, and rows with the model's categories from the one
+/// after that, and learns a model from these rows alone. The search may make 100,000 lemmas. Equal numbers draw equal
+/// rows on every machine. After the last seed of 64 bits comes 0.
 ///
-/// `Learned` has the summary: the numbers of criteria, categories, rows, variables and clauses, how many rows the learned
-/// model restores, and the text of this model, which reads back as it. `Limit` has a good and fresh log of exactly 100,000
-/// lemmas. The drawn model restores the rows, so they are never refuted.
+/// `Learned` has the summary: the numbers of criteria, categories, rows, variables and clauses, how many rows the
+/// learned model restores, and the text of this model, which reads back as it. `Limit` has a good and fresh log of
+/// exactly 100,000 lemmas. The drawn model restores the rows, so they are never refuted.
 ///
-/// The error is `TooLarge`, with the number of literals, if the formula would have more than 33,554,432. `Wide` never comes.
+/// The error is `TooLarge`, with the number of literals, if the formula would have more than 33,554,432. `Wide` never
+/// comes.
 pub fn rehearse(
     alloc: Global,
     criteria: u32,
@@ -81,7 +86,10 @@ pub fn rehearse(
     requires few_rows { rows ≤ 10000 }
     ensures learned { IfOk result (IfLearned
         (IsSummary (rehearsed_problem criteria categories seed) (rehearsed_examples criteria categories rows seed))) }
-    ensures at_limit { IfOk result (IfLimit (IsAtLimit (formula_of Separation (rehearsed_task criteria categories rows seed)) 100000)) }
+    ensures at_limit { let formula = formula_of Separation (rehearsed_task criteria categories rows seed) in
+        IfOk result (IfLimit (IsAtLimit formula 100000)) }
+    ensures undecided { let formula = formula_of Separation (rehearsed_task criteria categories rows seed) in
+        IfOk result (IfLimit (λ _. ¬ PropagationEnds formula)) }
     ensures small { OnOk result (HasFormula Separation (rehearsed_task criteria categories rows seed)) }
     ensures fault { IfErr result (LearnFaultOf Separation (rehearsed_task criteria categories rows seed)) }
 {

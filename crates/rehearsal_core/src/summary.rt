@@ -1,4 +1,4 @@
-//! The summary of a rehearsal. Out of memory, a call leaves nothing that is looked at.
+//! The summary of a rehearsal.
 ghost use Rattle.std.specs.Prelude.{◌≡◌, ◌++◌, length, IfOk, IfErr, OnOk};
 ghost use Rattle.sorting_rule.specs.Rebuilt.{Learns};
 ghost use Rattle.literals_core.specs.declared.encoding.Encoding.TheVariants.{Separation};
@@ -29,15 +29,17 @@ pub struct Size {
     clauses: u32,
 }
 
-/// The size of the formula of examples. The formula itself is let go, so that it isn't held while learning makes it again.
+/// The size of the formula of examples. The formula is let go before learning makes it again.
 pub fn formula_size(
     alloc: Global,
     problem: &Problem,
     examples: &Examples,
 ) -> Result<Size, LearnFault>
     requires { BelongTo problem.now examples.now }
-    ensures variables { IfOk result (λ size. size.variables ≡ (formula_of Separation (task_of problem.now examples.now)).variables) }
-    ensures clauses { IfOk result (λ size. size.clauses ≡ length (formula_of Separation (task_of problem.now examples.now)).clauses) }
+    ensures variables { let formula = formula_of Separation (task_of problem.now examples.now) in
+        IfOk result (λ size. size.variables ≡ formula.variables) }
+    ensures clauses { let formula = formula_of Separation (task_of problem.now examples.now) in
+        IfOk result (λ size. size.clauses ≡ length formula.clauses) }
     ensures fault { IfErr result (LearnFaultOf Separation (task_of problem.now examples.now)) }
 {
     let ranks = Ranks::of(alloc, problem, examples)?;
