@@ -11,8 +11,7 @@ ghost use Rattle.sorting_rule.specs.Examples.{Example};
 ghost use Rattle.problem_core.specs.Problem.{ProblemValue};
 ghost use Rattle.model_core.specs.Model.{ModelValue};
 ghost use Rattle.model_text_core.specs.ModelText.{model_text};
-ghost use Rattle.rehearsal_core.specs.Rehearsed.{counts_text, restored_line, IsSummary};
-ghost use Rattle.rehearsal_core.specs.Rehearsed.{rehearsed_examples, rehearsed_problem};
+ghost use Rattle.rehearsal_core.specs.Rehearsed.{counts_text, restored_line, IsSummary, rehearsed_examples, rehearsed_problem};
 
 pub use learn_core::LearnFault;
 pub use rehearsal::{MOST_LEMMAS, Rehearsal, rehearse};

@@ -1,4 +1,4 @@
-//! Worked rows of `generate`.
+//! Worked rows of `generate` and `rehearse`.
 use crate::session::{output, runs};
 use edge_core::MemShelf;
 use lincs_top::Status;
@@ -80,5 +80,47 @@ fn a_drawn_model_restores_the_table_that_it_sorts(rt: HostRuntime) -> Result<(),
         Status::Done,
     )?;
     assert!(rt; sorted.bytes() == table.bytes(), "sorting changes nothing");
+    Ok(())
+}
+
+#[test]
+fn a_rehearsal_without_rows_has_the_one_model(rt: HostRuntime) -> Result<(), Fail> {
+    let mut shelf = MemShelf::new(rt.alloc());
+    let summary = "criteria 1
+categories 2
+rows 0
+variables 0
+clauses 0
+restored 0/0
+kind: ncs-classification-model
+format_version: 1
+accepted_values:
+  - kind: thresholds
+    thresholds: [null]
+sufficient_coalitions:
+  - &coalitions
+    kind: roots
+    upset_roots: []
+";
+    let want = (Status::Done, summary, "");
+    runs(&rt, rt.alloc(), "rehearse 1 2 0 5", &mut shelf, want)
+}
+
+#[test]
+fn a_rehearsal_restores_every_row(rt: HostRuntime) -> Result<(), Fail> {
+    for (line, begin) in [
+        (
+            "rehearse 4 3 20 41",
+            "criteria 4\ncategories 3\nrows 20\nvariables 828\nclauses 1738\nrestored 20/20\n",
+        ),
+        (
+            "rehearse 4 3 200 41",
+            "criteria 4\ncategories 3\nrows 200\nvariables 69458\nclauses 155329\nrestored 200/200\n",
+        ),
+    ] {
+        let mut shelf = MemShelf::new(rt.alloc());
+        let summary = output(&rt, rt.alloc(), line, &mut shelf, Status::Done)?;
+        assert!(rt; summary.bytes().starts_with(begin.as_bytes()), "{line}");
+    }
     Ok(())
 }

@@ -9,7 +9,7 @@ use std::test::Fail;
 /// A command line, the names of its files in the order in which they are read, and the status that it ends with.
 type Case<'a> = (&'a str, &'a str, Status);
 
-const CASES: [Case<'_>; 18] = [
+const CASES: [Case<'_>; 19] = [
     (
         "classify P.yml M.yml A.csv",
         "P.yml M.yml A.csv",
@@ -92,6 +92,7 @@ const CASES: [Case<'_>; 18] = [
         "P.yml M.yml",
         Status::Done,
     ),
+    ("rehearse 2 2 6 7", "", Status::Done),
 ];
 
 /// The files of all cases.
