@@ -156,7 +156,7 @@ fn each_failing_read_of_each_command_names_its_file(rt: HostRuntime) -> Result<(
             }
             let want = format!(in rt.alloc(); "lincs: cannot read {name}\n")?;
             for _ in 0..3 {
-                call += 1;
+                call = call.wrapping_add(1);
                 let mut shelf = files(rt.alloc())?;
                 shelf.fail_at(call)?;
                 let want = (Status::ReadFault, "", want.as_str());
