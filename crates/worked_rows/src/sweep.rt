@@ -9,7 +9,7 @@ use std::test::Fail;
 /// A command line, the names of its files in the order in which they are read, and the status that it ends with.
 type Case<'a> = (&'a str, &'a str, Status);
 
-const CASES: [Case<'_>; 19] = [
+const CASES: [Case<'_>; 27] = [
     (
         "classify P.yml M.yml A.csv",
         "P.yml M.yml A.csv",
@@ -93,6 +93,38 @@ const CASES: [Case<'_>; 19] = [
         Status::Done,
     ),
     ("rehearse 2 2 6 7", "", Status::Done),
+    (
+        "classification-accuracy P.yml M.yml B.csv",
+        "P.yml M.yml B.csv",
+        Status::Refused,
+    ),
+    (
+        "learn classification-model P.yml B.csv",
+        "P.yml B.csv",
+        Status::Refused,
+    ),
+    (
+        "encode P.yml B.csv --encoding separation",
+        "P.yml B.csv",
+        Status::Refused,
+    ),
+    ("describe problem M.yml", "M.yml", Status::Refused),
+    ("describe model P.yml P.yml", "P.yml P.yml", Status::Refused),
+    (
+        "describe alternatives P.yml B.csv",
+        "P.yml B.csv",
+        Status::Refused,
+    ),
+    (
+        "generate classification-model M.yml --random-seed 4",
+        "M.yml",
+        Status::Refused,
+    ),
+    (
+        "generate classified-alternatives P.yml P.yml 5 --random-seed 4",
+        "P.yml P.yml",
+        Status::Refused,
+    ),
 ];
 
 /// The files of all cases.
