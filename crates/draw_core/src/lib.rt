@@ -5,7 +5,6 @@ mod choice;
 mod laws;
 mod model;
 mod problem;
-mod quoting;
 mod rows;
 #[cfg(test)]
 mod tests;

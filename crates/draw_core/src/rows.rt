@@ -16,7 +16,6 @@ ghost use Rattle.draw_core.specs.DrawnTable.{drawn_examples, drawn_record, drawn
 ghost use Rattle.draw_core.specs.Words.{after, seeded, words_of};
 
 use crate::choice::{choice_count, chosen, scale_at};
-use crate::quoting::{put_field, put_last, put_next};
 use crate::words::seeded;
 use itoa::Buffer;
 use model_core::{Model, sort};
@@ -24,7 +23,7 @@ use problem_core::{Criterion, Grade, Problem, put_grade};
 use rand_core::utils::NextWord;
 use rand_pcg::Pcg32;
 use std::alloc::{AllocError, Global};
-use table_core::{Examples, put_header};
+use table_core::{Examples, put_field, put_header, put_last, put_next};
 
 /// Draws the grades of the next row, which take the place of those in `grades`.
 fn draw_grades(

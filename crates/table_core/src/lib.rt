@@ -16,6 +16,6 @@ mod tests;
 pub use classified::examples;
 pub use example_list::Examples;
 pub use fault::{RowFault, TableFault};
-pub use put::{put_header, put_row, record_is_that_of_csv};
+pub use put::{put_field, put_header, put_last, put_next, put_row, record_is_that_of_csv};
 pub use row::{Row, RowGrades, Texts};
 pub use table::Table;
