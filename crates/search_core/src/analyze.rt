@@ -10,6 +10,7 @@ ghost use Rattle.search_core.specs.Analysis.{AreMarked, IsMade, Show, below_of};
 ghost use Rattle.search_core.specs.declared.outcome.TheConstants.{MOST_LEMMAS};
 
 use crate::activity::Activity;
+use crate::backjump::first_above;
 use crate::inner_literal::InnerLiteral;
 use crate::mark::{last_marked, mark_clause};
 use arena_core::{Arena, ClauseId, Lit, Steps};
@@ -24,6 +25,8 @@ pub(crate) struct Analysis {
     pub(crate) stamps: Vec<u32>,
     /// The number of the current conflict, from 1.
     pub(crate) stamp: u32,
+    /// The first place of the current level on the trail, as a hint.
+    floor: usize,
     /// The literals of the lemma that became false on lower levels.
     pub(crate) lower: Vec<InnerLiteral>,
     /// The whole lemma, with its literal of the current level first.
@@ -43,6 +46,7 @@ impl Analysis {
         Ok(Analysis {
             stamps,
             stamp: 0,
+            floor: 0,
             lower: Vec::new(alloc),
             clause: Vec::new(alloc),
             hints: Vec::new(alloc),
@@ -55,7 +59,7 @@ impl Analysis {
         requires below { below ≤ length trail.now.entries }
         ensures { IsLastOpen trail.now self.now.stamps.items self.now.stamp below result }
     {
-        last_marked(trail, self.stamps.as_slice(), self.stamp, below)
+        last_marked(trail, self.stamps.as_slice(), self.stamp, self.floor, below)
     }
 
     /// Begins with a false clause. Returns the last place of the current level that is marked, if any.
@@ -165,6 +169,7 @@ impl Analysis {
         ensures stamp { self.new.stamp ≡ self.old.stamp }
     {
         let level = trail.level();
+        self.floor = first_above(trail, level.saturating_sub(1));
         let mut last = self.begin(trail, arena, conflict, activity, looks)?;
         while let Some(place) = last {
             if level > 0 && self.last_open(trail, place).is_none() {

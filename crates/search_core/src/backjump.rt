@@ -47,22 +47,30 @@ pub(crate) fn put_highest_first(trail: &Trail<InnerLiteral>, lower: &mut [InnerL
     trail.level_of(lower[0].variable())
 }
 
+/// The first place on the trail above a level. Levels do not fall along the trail, so it is found by halving.
+pub(crate) fn first_above(trail: &Trail<InnerLiteral>, level: u32) -> usize
+    ensures { result ≤ length trail.now.entries }
+{
+    let _current = trail.level();
+    let order = trail.order();
+    let mut low = 0;
+    let mut high = order.len();
+    while low < high {
+        let middle = low + (high - low) / 2;
+        if trail.level_of(order[middle].variable()) <= level {
+            low = middle + 1;
+        } else {
+            high = middle;
+        }
+    }
+    low
+}
+
 /// Gives the variables above a level back to the order of decisions, with their signs.
 fn release_above(trail: &Trail<InnerLiteral>, level: u32, activity: &mut Activity) {
-    let current = trail.level();
-    if current <= level {
-        return;
-    }
-    let order = trail.order();
-    let mut at = order.len();
-    while at > 0 {
-        at -= 1;
-        let literal = order[at];
-        let variable = literal.variable();
-        if trail.level_of(variable) <= level {
-            return;
-        }
-        activity.release(variable, literal.has_minus());
+    let above = first_above(trail, level);
+    for literal in trail.order()[above..].iter().rev() {
+        activity.release(literal.variable(), literal.has_minus());
     }
 }
 

@@ -74,11 +74,13 @@ pub(crate) fn mark_clause(
     Ok(())
 }
 
-/// The last place below `below` on the trail, on the current level, whose variable is marked.
+/// The last place below `below` on the trail, on the current level, whose variable is marked. From `floor` on all places
+/// are of the current level, so levels are looked up below it alone; this is a hint.
 pub(crate) fn last_marked(
     trail: &Trail<InnerLiteral>,
     stamps: &[u32],
     stamp: u32,
+    floor: usize,
     below: usize,
 ) -> Option<usize>
     requires size { length stamps.now ≡ trail.now.variables }
@@ -91,11 +93,14 @@ pub(crate) fn last_marked(
     while place > 0 {
         place -= 1;
         let variable = order[place].variable();
-        if trail.level_of(variable) < level {
-            return None;
-        }
         if stamps[variable as usize] == stamp {
+            if trail.level_of(variable) < level {
+                return None;
+            }
             return Some(place);
+        }
+        if place < floor && trail.level_of(variable) < level {
+            return None;
         }
     }
     None
