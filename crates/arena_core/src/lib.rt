@@ -17,5 +17,3 @@ mod lit;
 mod seat;
 mod small_lit;
 mod steps;
-#[cfg(test)]
-mod tests;

@@ -25,5 +25,3 @@ pub use log::{Hints, Lemma, Literals, Log};
 pub use read::{MOST_BYTES, read_log};
 pub use write::{put_dimacs, write_log};
 
-#[cfg(test)]
-mod tests;

@@ -2,8 +2,6 @@
 #![tactic(auto)]
 
 mod either;
-#[cfg(test)]
-mod tests;
 
 pub use either::encode;
 pub use literals_core::Encoding;

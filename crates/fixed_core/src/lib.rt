@@ -15,6 +15,3 @@ pub use fixed::{Fixed, MOST_UNITS, add, at_least};
 pub use laws::{canonical_text_is_the_spelling, computed_numeral_is_the_spelled_one};
 pub use read::read_fixed;
 pub use spelling::put_fixed;
-
-#[cfg(test)]
-mod tests;

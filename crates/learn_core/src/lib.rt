@@ -5,8 +5,6 @@ mod learning;
 mod profiles;
 mod rebuilding;
 mod sets;
-#[cfg(test)]
-mod tests;
 mod values;
 
 pub use learning::{Answer, learn};

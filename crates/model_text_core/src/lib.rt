@@ -7,8 +7,6 @@ mod places;
 mod put;
 mod roots;
 mod same;
-#[cfg(test)]
-mod tests;
 mod thresholds;
 mod weights;
 mod write;

@@ -4,8 +4,6 @@
 mod criteria;
 mod put;
 mod scale;
-#[cfg(test)]
-mod tests;
 mod write;
 
 ghost use Rattle.problem_core.specs.Problem.{ProblemValue, IsProblem};

@@ -5,8 +5,6 @@ mod fault;
 mod fits;
 mod ranked;
 mod ranks;
-#[cfg(test)]
-mod tests;
 
 pub use fault::{EncodeFault, MOST_LITERALS};
 pub use fits::{examples_that_belong_fit, fits_problem};

@@ -3,8 +3,6 @@
 
 mod rehearsal;
 mod summary;
-#[cfg(test)]
-mod tests;
 
 ghost use Rattle.std.specs.Prelude.{◌≡◌, ◌++◌, ℕ, List, length};
 ghost use Rattle.sorting_rule.specs.Examples.{Example};

@@ -5,6 +5,3 @@ mod piece;
 mod send;
 
 pub use send::{send_dimacs, send_log};
-
-#[cfg(test)]
-mod tests;

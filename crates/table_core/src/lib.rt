@@ -10,8 +10,6 @@ mod put;
 mod records;
 mod row;
 mod table;
-#[cfg(test)]
-mod tests;
 
 pub use classified::examples;
 pub use example_list::Examples;

@@ -12,8 +12,6 @@ pub use watched::Watched;
 mod added;
 mod ready;
 mod reasons;
-#[cfg(test)]
-mod tests;
 mod trail;
 mod walk;
 mod watched;

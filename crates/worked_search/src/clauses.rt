@@ -23,7 +23,7 @@ fn has_distinct_variables(clause: &[Literal]) -> bool
 }
 
 /// Whether a literal is of a variable above this one.
-fn has_higher(literals: &[Literal], variables: u32) -> bool
+pub fn has_higher(literals: &[Literal], variables: u32) -> bool
     ensures value { result ≡ list_any (λ l. nat_lt variables (variable_of l)) literals.now }
     ensures bounded { OnFalse result (All (λ l. variable_of l ≤ variables) literals.now) }
 {

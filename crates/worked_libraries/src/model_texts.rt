@@ -1,10 +1,10 @@
 //! What no clause says: that models are written if memory is ample, and worked texts.
-use crate::write_model;
+use crate::files::{problem_of, tree_of};
 use model_core::read_model;
-use problem_core::{Problem, read_problem};
-use std::alloc::{AllocError, Global};
+use model_text_core::write_model;
+use problem_core::Problem;
+use std::alloc::Global;
 use std::test::Fail;
-use yaml_core::{MOST_BYTES, Node, read_yaml};
 
 /// Names with quotes, a backslash and letters beyond ASCII; three categories.
 const MARKS: &str = "kind: classification-problem
@@ -21,20 +21,6 @@ ordered_categories:
   - name: Fair
   - name: Good
 ";
-
-/// The tree of a text.
-fn tree_of(alloc: Global, text: &str) -> Result<Node, Fail> {
-    if text.len() > MOST_BYTES {
-        return Err("too long".into());
-    }
-    Ok(read_yaml(alloc, text.as_bytes())?)
-}
-
-/// The problem of a text.
-fn problem_of(alloc: Global, text: &str) -> Result<Problem, Fail> {
-    let tree = tree_of(alloc, text)?;
-    Ok(read_problem(alloc, &tree)?)
-}
 
 /// The text of the model that a text is read as.
 fn rewritten(alloc: Global, problem: &Problem, text: &str) -> Result<Vec<u8>, Fail> {

@@ -1,5 +1,5 @@
 //! What no clause says: that rehearsals come to their summaries with ample memory. The counts were worked out apart.
-use crate::{Rehearsal, rehearse};
+use rehearsal_core::{Rehearsal, rehearse};
 use std::alloc::Global;
 use std::test::Fail;
 

@@ -1,15 +1,12 @@
 //! What no clause says: that ranks are made with ample memory.
 ghost use Rattle.std.specs.Prelude.{◌<◌, ◌≤◌, [], length, slice_index_or};
 
-use crate::{Ranks, fits_problem};
-use problem_core::{Grade, Problem, read_problem};
+use crate::files::problem_of;
+use problem_core::{Grade, Problem};
+use ranks_core::{Ranks, fits_problem};
 use std::alloc::{AllocError, Global};
 use std::test::Fail;
 use table_core::Examples;
-use yaml_core::read_yaml;
-
-/// The bytes of 64 MiB.
-const MOST_BYTES: usize = 67_108_864;
 
 /// One criterion of numbers, the less the better.
 const PRICE: &str = "kind: classification-problem
@@ -24,16 +21,6 @@ ordered_categories:
   - name: Bad
   - name: Good
 ";
-
-/// The problem of the criterion Price.
-fn price(alloc: Global) -> Option<Problem> {
-    let bytes = PRICE.as_bytes();
-    if bytes.len() > MOST_BYTES {
-        return None;
-    }
-    let node = read_yaml(alloc, bytes).ok()?;
-    read_problem(alloc, &node).ok()
-}
 
 /// The places of the grades of so many examples on the first criterion.
 fn first_places(alloc: Global, ranks: &Ranks, rows: u32) -> Result<Vec<u32>, AllocError>
@@ -62,7 +49,7 @@ fn first_ranks(alloc: Global, problem: &Problem, examples: &Examples) -> Option<
 #[test]
 fn the_less_the_better_with_a_tie(rt: HostRuntime) -> Result<(), Fail> {
     let alloc = rt.alloc();
-    let problem = price(alloc).ok_or("no problem")?;
+    let problem = problem_of(alloc, PRICE)?;
     let mut examples = Examples::empty(alloc);
     examples.push(&[Grade::place(5)], 0)?;
     examples.push(&[Grade::place(3)], 1)?;

@@ -1,5 +1,5 @@
 //! What no clause says: what the system's files and outputs give and take, and that calls return no fault with ample memory.
-use super::*;
+use edge_core::*;
 use std::fs;
 use std::io::{self, Write};
 use std::test::Fail;

@@ -2,7 +2,7 @@
 ghost use Rattle.std.specs.Prelude.{◌≡◌, ◌+◌, ◌*◌, ◌<◌, false};
 ghost use Rattle.arena_core.specs.declared.arena.TheConstants.{MOST_CLAUSES};
 
-use crate::{Arena, Chains, ClauseId, Lit, Seat, SmallLit, Steps};
+use arena_core::{Arena, Chains, ClauseId, Lit, Seat, SmallLit, Steps};
 use std::alloc::Global;
 use std::marker::Brand;
 use std::process::Abort;

@@ -1,7 +1,7 @@
 //! Worked logs, each fault once: what the calls that take memory return with ample memory.
 
-use crate::checker::has_higher;
-use crate::{
+use crate::clauses::has_higher;
+use chain_core::{
     CheckFault, Encoding, Formula, Literal, LogFault, MOST_BYTES, MOST_CLAUSES, check, put_dimacs,
     read_log, write_log,
 };

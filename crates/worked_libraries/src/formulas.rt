@@ -1,34 +1,26 @@
 //! What no clause says: that formulas are made with ample memory.
-use crate::{Encoding, encode};
+use crate::files::problem_of;
 use chain_core::put_dimacs;
-use problem_core::{Grade, Problem, read_problem};
+use encoders_core::{Encoding, encode};
+use problem_core::{Grade, Problem};
 use ranks_core::{EncodeFault, Ranks, fits_problem};
 use std::alloc::Global;
 use std::test::Fail;
 use table_core::Examples;
-use yaml_core::read_yaml;
-
-/// The bytes of 64 MiB.
-const MOST_BYTES: usize = 67_108_864;
 
 /// A problem of two categories and so many criteria, with whole numbers from 0 to 10.
-fn problem_of(alloc: Global, criteria: u32) -> Option<Problem> {
+fn problem_of_criteria(alloc: Global, criteria: u32) -> Result<Problem, Fail> {
     let mut file = format!(in alloc;
         "kind: classification-problem\nformat_version: 1\ncriteria:\n"
-    ).ok()?;
+    )?;
     for k in 0..criteria {
         let lines = format!(in alloc;
             "  - name: C{k}\n    value_type: integer\n    preference_direction: increasing\n    min_value: 0\n    max_value: 10\n"
-        ).ok()?;
-        file.push_str(lines.as_str()).ok()?;
+        )?;
+        file.push_str(lines.as_str())?;
     }
-    file.push_str("ordered_categories:\n  - name: Bad\n  - name: Good\n")
-        .ok()?;
-    if file.len() > MOST_BYTES {
-        return None;
-    }
-    let node = read_yaml(alloc, file.as_bytes()).ok()?;
-    read_problem(alloc, &node).ok()
+    file.push_str("ordered_categories:\n  - name: Bad\n  - name: Good\n")?;
+    problem_of(alloc, file.as_str())
 }
 
 /// The text of the formula of examples, or the fault.
@@ -51,7 +43,7 @@ fn text(
 #[test]
 fn worse_on_each_criterion_in_the_better_category(rt: HostRuntime) -> Result<(), Fail> {
     let alloc = rt.alloc();
-    let problem = problem_of(alloc, 2).ok_or("no problem")?;
+    let problem = problem_of_criteria(alloc, 2)?;
     let mut examples = Examples::empty(alloc);
     examples.push(&[Grade::place(1), Grade::place(0)], 1)?;
     examples.push(&[Grade::place(1), Grade::place(1)], 0)?;
@@ -68,7 +60,7 @@ fn worse_on_each_criterion_in_the_better_category(rt: HostRuntime) -> Result<(),
 #[test]
 fn thirteen_criteria_are_too_many_for_coalitions_alone(rt: HostRuntime) -> Result<(), Fail> {
     let alloc = rt.alloc();
-    let problem = problem_of(alloc, 13).ok_or("no problem")?;
+    let problem = problem_of_criteria(alloc, 13)?;
     let mut examples = Examples::empty(alloc);
     examples.push(&[Grade::place(0); 13], 1)?;
     assert_eq!(rt;

@@ -1,6 +1,6 @@
 use Rattle.std.proofs.Common.{arith}
 use Rattle.ranks_core.proofs.RanksFacts.{has_first}
-use Rattle.ranks_core.proofs.tests.first_ranks.Goals as goal
+use Rattle.worked_libraries.proofs.ranks.first_ranks.Goals as goal
 
 pub first_places-requires-clause-criterion : goal.first_places-requires-clause-criterion
 first_places-requires-clause-criterion c =

@@ -3,13 +3,13 @@ ghost use Rattle.std.specs.Prelude.{◌≡◌, ◌≢◌, ◌+◌, ◌*◌, ◌<
 ghost use Rattle.literals_core.specs.Literal.{variable_of};
 ghost use Rattle.watch_core.specs.Trail.{empty_trail};
 
-use crate::{Added, Standing, Watched};
 use arena_core::{ClauseId, Lit, SmallLit, Steps};
 use std::alloc::{AllocError, Global};
 use std::marker::Brand;
 use std::process::Abort;
 use std::sync::ledger::{Blank, Ledger};
 use std::test::Fail;
+use watch_core::{Added, Standing, Watched};
 
 /// The literal at a place: an even place is a variable, an odd one its negation.
 fn literal(place: u8) -> SmallLit

@@ -1,6 +1,6 @@
 //! Whole texts, in one piece and in several, and sinks whose writes fail.
 
-use crate::{send_dimacs, send_log};
+use stream_core::{send_dimacs, send_log};
 use chain_core::{Encoding, Formula, Literal, Log, MOST_BYTES, put_dimacs, read_log};
 use edge_core::{Failed, MemSink};
 use std::alloc::Global;

@@ -1,7 +1,7 @@
 //! What no clause says: that appending succeeds with ample memory; and worked values, which come
 //! from the grammar and the place values of decimals.
 
-use crate::{Fixed, FixedFault, put_fixed, read_fixed};
+use fixed_core::{Fixed, FixedFault, put_fixed, read_fixed};
 use std::test::Fail;
 
 const ONE: i128 = 1_000_000_000_000_000_000;

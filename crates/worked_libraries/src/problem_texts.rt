@@ -1,23 +1,8 @@
 //! What no clause says: that problems are written if memory is ample, and worked texts.
-use crate::write_problem;
-use problem_core::{Problem, read_problem};
-use std::alloc::{AllocError, Global};
+use crate::files::problem_of;
+use problem_text_core::write_problem;
+use std::alloc::Global;
 use std::test::Fail;
-use yaml_core::{MOST_BYTES, Node, read_yaml};
-
-/// The tree of a text.
-fn tree_of(alloc: Global, text: &str) -> Result<Node, Fail> {
-    if text.len() > MOST_BYTES {
-        return Err("too long".into());
-    }
-    Ok(read_yaml(alloc, text.as_bytes())?)
-}
-
-/// The problem of a text.
-fn problem_of(alloc: Global, text: &str) -> Result<Problem, Fail> {
-    let tree = tree_of(alloc, text)?;
-    Ok(read_problem(alloc, &tree)?)
-}
 
 /// The text of the problem that a text is read as.
 fn rewritten(alloc: Global, text: &str) -> Result<Vec<u8>, Fail> {

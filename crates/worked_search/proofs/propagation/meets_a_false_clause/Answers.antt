@@ -5,7 +5,7 @@ use Rattle.watch_core.specs.Trail.{Assignment, decided, empty_trail}
 use Rattle.watch_core.specs.Rest.{CanPropagate}
 use Rattle.watch_core.proofs.ReadyLemmas.{rests_at_start, can_decided}
 use Rattle.watch_core.proofs.TrailLemmas.{empty_is}
-use Rattle.watch_core.proofs.tests.meets_a_false_clause.Goals as goal
+use Rattle.worked_search.proofs.propagation.meets_a_false_clause.Goals as goal
 
 -- a first decision may be propagated
 can_first : {L : Type 0} (at : L → ℕ) (trail before : Assignment L) (clauses : List (List ℕ)) (decision : L) (variables : ℕ) → variables ≤ MOST_VARIABLES → before ≡ empty_trail variables → trail ≡ decided before decision → CanPropagate at trail clauses
