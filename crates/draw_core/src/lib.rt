@@ -6,8 +6,6 @@ mod laws;
 mod model;
 mod problem;
 mod rows;
-#[cfg(test)]
-mod tests;
 mod words;
 
 pub use laws::drawn_examples_have_a_model;

@@ -12,6 +12,3 @@ mod walk;
 pub use command::Job;
 pub use fault::LineFault;
 pub use job::{numbers_of_a_job_are_in_their_ranges, read_line};
-
-#[cfg(test)]
-mod tests;

@@ -2,6 +2,10 @@
 #![tactic(auto)]
 
 #[cfg(test)]
+mod command_lines;
+#[cfg(test)]
+mod draws;
+#[cfg(test)]
 mod files;
 #[cfg(test)]
 mod formulas;
