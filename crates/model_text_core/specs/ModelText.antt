@@ -13,23 +13,12 @@ use Rattle.problem_core.specs.Problem.{ProblemValue}
 use Rattle.problem_core.specs.declared.criterion.Criterion.{Criterion}
 use Rattle.problem_core.specs.declared.criterion.Scale.{Scale}
 use Rattle.problem_core.specs.declared.criterion.Scale.TheVariants.{Rising, Falling, Named}
-use Rattle.written_core.specs.Document.{Scalar, Word, Text, One, Flow, Same, document_text}
-use Rattle.written_core.specs.Outline.{Outline, Leaf, End, Under, Dashed, Anchored, outline_lines}
+use Rattle.written_core.specs.Document.{Scalar, Word, Text, Flow, Same, document_text}
+use Rattle.written_core.specs.Outline.{Outline, Leaf, End, Under, Dashed, Anchored, word, listed, outline_lines}
 use Rattle.model_core.specs.declared.model.Coalitions.{Coalitions}
 use Rattle.model_core.specs.declared.model.Coalitions.TheVariants.{Weights, Roots}
 use Rattle.model_core.specs.declared.model.Profile.{Profile}
 use Rattle.model_core.specs.Model.{ModelValue}
-
-abbrev pub word : List ℕ → Outline
-word t = Leaf (One (Word t))
-
--- items, or an empty flow list if there are none
-abbrev pub listed : Outline → Outline
-listed End = Leaf (Flow [])
-listed (Leaf v) = Leaf v
-listed (Under key first more) = Under key first more
-listed (Dashed first more) = Dashed first more
-listed (Anchored name o) = Anchored name o
 
 -- ---- thresholds
 

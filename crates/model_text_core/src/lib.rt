@@ -4,7 +4,6 @@
 mod accepted;
 mod coalitions;
 mod places;
-mod put;
 mod roots;
 mod same;
 #[cfg(test)]

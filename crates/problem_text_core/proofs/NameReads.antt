@@ -12,8 +12,9 @@ use Rattle.problem_core.specs.Name.{is_good_name, is_among}
 use Rattle.problem_core.specs.ReadNames.{text_in, fault_at, new_name, names_of}
 use Rattle.problem_core.specs.declared.read_names.NameList.{NameList}
 use Rattle.problem_core.specs.declared.read_names.NameList.TheVariants.{Scale, Categories}
-use Rattle.problem_text_core.proofs.Lookups.{text-Quoted, some-Quoted, quoted-under}
-use Rattle.problem_text_core.proofs.Meaning.{quoted_leaf, category_measured}
+use Rattle.written_core.proofs.Lookups.{text-Quoted, some-Quoted, quoted-under}
+use Rattle.written_core.proofs.Lists.{quoted_leaf}
+use Rattle.problem_text_core.proofs.Meaning.{category_measured}
 
 -- a text that differs from another differs the other way round
 differs-back : (a b : List ℕ) → bytes_eq a b ≡ false → bytes_eq b a ≡ false

@@ -6,11 +6,12 @@ ghost use Rattle.problem_core.specs.Grade.{IsGrade, quoted_grade_text};
 ghost use Rattle.report_core.specs.DescribedModel.{accepted_lines, boundary_line, boundary_line_at, bound_text, bound_word, coalitions_text, model_description, places_text, roots_text, threshold_line, threshold_line_at, threshold_text, weights_text};
 ghost use Rattle.report_core.specs.Text.{item_text, numbered};
 
-use crate::text::{put_comma, put_counted, put_text};
+use crate::text::put_counted;
 use model_core::{Coalitions, Fixeds, Masks, Model, Profile};
 use model_text_core::{put_places, put_weights};
 use problem_core::{Criterion, Grade, Problem, Scale, put_quoted_grade};
 use std::alloc::AllocError;
+use written_core::{put_comma, put_text};
 
 /// The words before a threshold: it is the greatest accepted grade on a falling scale, and the least on any other.
 fn bound_word(scale: &Scale) -> &'static str
@@ -103,7 +104,7 @@ fn put_root(place: u32, criteria: u32, root: u32, out: &mut Vec<u8>) -> Result<(
     requires { criteria ≤ 32 }
     ensures { Puts out.old.items out.new.items result (item_text place (places_text criteria root)) }
 {
-    put_comma(place, out)?;
+    put_comma(place as usize, out)?;
     put_places(criteria, root, out)
 }
 

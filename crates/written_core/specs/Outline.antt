@@ -16,6 +16,21 @@ pub data Outline : Type 0 where
   Dashed : Outline → Outline → Outline
   Anchored : List ℕ → Outline → Outline
 
+-- a word as it is, and a text in double quotes
+abbrev pub word : List ℕ → Outline
+word t = Leaf (One (Word t))
+
+abbrev pub quoted : List ℕ → Outline
+quoted t = Leaf (One (Text t))
+
+-- items, or an empty flow list if there are none
+abbrev pub listed : Outline → Outline
+listed End = Leaf (Flow [])
+listed (Leaf v) = Leaf v
+listed (Under key first more) = Under key first more
+listed (Dashed first more) = Dashed first more
+listed (Anchored name o) = Anchored name o
+
 -- ---- lines
 
 -- what follows on the line of the key or the dash

@@ -1,7 +1,8 @@
 use Rattle.std.proofs.Common.{List, ℕ, ◌++◌, codes}
 use Rattle.lists_core.proofs.PutsFacts.{puts-then}
-use Rattle.problem_text_core.specs.Parts.{row, flow_names}
-use Rattle.problem_text_core.proofs.PutFacts.{first-cut}
+use Rattle.written_core.specs.Parts.{row}
+use Rattle.written_core.proofs.PutLemmas.{first-cut}
+use Rattle.problem_text_core.specs.Parts.{flow_names}
 use Rattle.problem_text_core.proofs.scale.put_enumerated.Goals as goal
 
 -- what stands before the names
