@@ -1,4 +1,4 @@
-//! What no clause says: that learning comes to each of its answers with ample memory.
+//! What no clause says: that learning comes to each of its results with ample memory.
 ghost use Rattle.std.specs.Prelude.{IfOk};
 ghost use Rattle.table_core.specs.Table.{IsTableOf};
 

@@ -96,7 +96,7 @@ halved set n h = let double = two-pow-succ n in omega (arith, h, double, div-add
 parity : (set : ℕ) → set % 2 < 2
 parity set = mod_below set 2 (omega arith)
 
--- one place more, where the rest of the set reads back
+-- one place more, if the rest of the set reads back
 set-step : (count n i acc set : ℕ) → i + suc n ≤ count → count ≤ 32 → acc < 2 ^ i → set < 2 ^ suc n
     → ((a s : ℕ) → a < 2 ^ (i + 1) → s < 2 ^ n → set_of count a (map (λ m. place_node m) (places_in n (i + 1) s)) ≡ Some (a + 2 ^ (i + 1) * s))
     → (t : Bool) → (set % 2 == 1) ≡ t

@@ -41,7 +41,7 @@ new-name earlier name good new = by_tests (is_good_name name) (is_among earlier 
     by_tests : (g a : Bool) → g ≡ true → a ≡ false → (if g && not a then Some name else None) ≡ Some name
     by_tests g a eg ea = rw (eg, ea) refl
 
--- names behind earlier ones, where each item is read as its name
+-- names behind earlier ones, if each item is read as its name
 names-read : (list : NameList) (item : List ℕ → Node) → ((name : List ℕ) → text_in list (item name) ≡ Some name) → (earlier names : List (List ℕ)) → list_all is_good_name names ≡ true → IsDistinct bytes_eq (earlier ++ names)
     → names_of list earlier (map item names) ≡ Ok (earlier ++ names)
 unfolding names_of
