@@ -1,5 +1,7 @@
 -- The text of a model: its outline, whose lines are written.
-use Rattle.std.specs.Prelude.{◌≡◌, ◌≤◌, All, Option, None, Some, Ok, Bool, true, false, ◌&&◌, ℕ, zero, suc, ◌+◌, ◌/◌, ◌%◌, ◌==◌, ℤ, pos, negsuc, unsigned_abs, decimal, if◌then◌else◌, List, [], ◌∷◌, length, map, codes}
+use Rattle.std.specs.Prelude.{◌≡◌, ◌≤◌, All, Option, None, Some, Ok, Bool, true, false, ◌&&◌, ℕ, zero, suc, ◌+◌, ◌/◌}
+use Rattle.std.specs.Prelude.{◌%◌, ◌==◌, ℤ, pos, negsuc, unsigned_abs, decimal, if◌then◌else◌, List, [], ◌∷◌, length}
+use Rattle.std.specs.Prelude.{map, codes}
 use Rattle.std.specs.List.{list_all}
 use Rattle.std.specs.Str.{bytes_eq, IsUtf8}
 use Rattle.yaml_core.specs.declared.node.Node.{Node}
@@ -42,7 +44,8 @@ thresholds_outline scale ts =
 abbrev pub accepted_outline : List Criterion → List Profile → Outline
 accepted_outline [] rows = End
 accepted_outline (criterion ∷ criteria) [] = End
-accepted_outline (criterion ∷ criteria) (row ∷ rows) = Dashed (thresholds_outline criterion.scale row.thresholds) (accepted_outline criteria rows)
+accepted_outline (criterion ∷ criteria) (row ∷ rows) =
+    Dashed (thresholds_outline criterion.scale row.thresholds) (accepted_outline criteria rows)
 
 -- ---- roots
 

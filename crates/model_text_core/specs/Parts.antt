@@ -18,13 +18,15 @@ place_text written place rest = if rest % 2 == 1 then comma written ++ decimal p
 
 abbrev pub thresholds_text : Scale → List (Option ℤ) → List ℕ
 thresholds_text scale ts =
-    row (codes "  - kind: thresholds") (codes "    thresholds: " ++ row (flow_text (map (threshold_scalar scale) ts)) [])
+    row (codes "  - kind: thresholds")
+    (codes "    thresholds: " ++ row (flow_text (map (threshold_scalar scale) ts)) [])
 
 -- the rows of each criterion
 abbrev pub accepted_text : List Criterion → List Profile → List ℕ
 accepted_text [] rows = []
 accepted_text (criterion ∷ criteria) [] = []
-accepted_text (criterion ∷ criteria) (p ∷ rows) = thresholds_text criterion.scale p.thresholds ++ accepted_text criteria rows
+accepted_text (criterion ∷ criteria) (p ∷ rows) =
+    thresholds_text criterion.scale p.thresholds ++ accepted_text criteria rows
 
 abbrev pub root_text : ℕ → ℕ → List ℕ
 root_text count root = codes "      - " ++ row (flow_text (root_scalars count root)) []

@@ -29,7 +29,8 @@ fn put_criterion(
     out: &mut Vec<u8>,
 ) -> Result<(), AllocError>
     requires { All (IsThreshold criterion.now.scale) profile.now.thresholds }
-    ensures text { Puts out.old.items out.new.items result (thresholds_text criterion.now.scale profile.now.thresholds) }
+    ensures text { Puts out.old.items out.new.items result
+        (thresholds_text criterion.now.scale profile.now.thresholds) }
     ensures names { HasUtf8Names criterion.now.scale }
 {
     let _names = names_count(&criterion.scale);

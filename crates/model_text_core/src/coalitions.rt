@@ -1,7 +1,8 @@
 //! Writing coalitions.
 ghost use Rattle.std.specs.Prelude.{◌≡◌, ◌≤◌, ◌<◌, length};
 ghost use Rattle.lists_core.specs.Puts.{Puts};
-ghost use Rattle.model_text_core.specs.Parts.{anchored_text, by_roots_text, by_weights_text, coalition_text, coalitions_text, each_text, item_text, same_text};
+ghost use Rattle.model_text_core.specs.Parts.{anchored_text, by_roots_text, by_weights_text, coalition_text};
+ghost use Rattle.model_text_core.specs.Parts.{coalitions_text, each_text, item_text, same_text};
 
 use crate::roots::put_upset;
 use crate::same::are_all_same;

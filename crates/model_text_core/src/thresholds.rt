@@ -33,7 +33,8 @@ fn put_item(
     out: &mut Vec<u8>,
 ) -> Result<(), AllocError>
     requires { IsThreshold criterion.now.scale threshold }
-    ensures { Puts out.old.items out.new.items result (comma place ++ scalar_text (threshold_scalar criterion.now.scale threshold)) }
+    ensures { Puts out.old.items out.new.items result
+        (comma place ++ scalar_text (threshold_scalar criterion.now.scale threshold)) }
 {
     put_comma(place, out)?;
     put_threshold(criterion, threshold, out)
@@ -46,7 +47,8 @@ pub fn put_thresholds(
     out: &mut Vec<u8>,
 ) -> Result<(), AllocError>
     requires { All (IsThreshold criterion.now.scale) thresholds.now }
-    ensures { Puts out.old.items out.new.items result (flow_text (map (threshold_scalar criterion.now.scale) thresholds.now)) }
+    ensures { Puts out.old.items out.new.items result
+        (flow_text (map (threshold_scalar criterion.now.scale) thresholds.now)) }
 {
     put_text("[", out)?;
     for (i, threshold) in thresholds.iter().enumerate() {

@@ -1,5 +1,6 @@
 -- The text of a problem: its outline, whose lines are written.
-use Rattle.std.specs.Prelude.{◌≡◌, ◌≤◌, ◌^◌, All, Ok, Bool, true, false, ℕ, unsigned_abs, List, [], ◌∷◌, length, map, codes}
+use Rattle.std.specs.Prelude.{◌≡◌, ◌≤◌, ◌^◌, All, Ok, Bool, true, false, ℕ, unsigned_abs, List, [], ◌∷◌, length, map}
+use Rattle.std.specs.Prelude.{codes}
 use Rattle.std.specs.List.{IsDistinct}
 use Rattle.std.specs.Str.{bytes_eq, IsUtf8}
 use Rattle.fixed_core.specs.Spelling.{spelling}

@@ -6,8 +6,8 @@ use Rattle.encoding_rules.specs.Encodings.{IsNarrow, IsWide, IsLarge, HasFormula
 use Rattle.ranks_core.specs.declared.fault.EncodeFault.{EncodeFault}
 use Rattle.ranks_core.specs.declared.fault.EncodeFault.TheVariants.{Wide, TooLarge, NoMemory}
 
--- What a fault says: too many criteria, whatever the literals; else too many literals, with their number; else no memory,
--- of which this is known.
+-- What a fault says: too many criteria, whatever the literals; else too many literals, with their number; else no
+-- memory, of which this is known.
 abbrev pub FaultGiven : Type 0 → Encoding → Task → EncodeFault → Type 0
 FaultGiven memory encoding task Wide = IsWide encoding task
 FaultGiven memory encoding task (TooLarge count) =

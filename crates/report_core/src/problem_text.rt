@@ -2,7 +2,8 @@
 ghost use Rattle.std.specs.Prelude.{◌≡◌, ◌++◌, codes, map};
 ghost use Rattle.lists_core.specs.Puts.{Puts};
 ghost use Rattle.yaml_tokens.specs.Written.{quoted_text};
-ghost use Rattle.report_core.specs.Described.{category_line, criterion_line, numbers_text, problem_description, scale_text, type_word};
+ghost use Rattle.report_core.specs.Described.{category_line, criterion_line, numbers_text, problem_description};
+ghost use Rattle.report_core.specs.Described.{scale_text, type_word};
 ghost use Rattle.report_core.specs.Text.{item_text, line_end, listed, numbered};
 
 use crate::text::put_counted;

@@ -25,5 +25,6 @@ pub fn written_outlines_are_read()
 
 /// A law: the bytes of a written outline whose quoted texts are UTF-8 read as its tree, unless that has too many nodes.
 pub fn written_bytes_are_read()
-    ensures { (o : Outline) → IsOutline o → IsUtf8Outline o → reading (document_text (outline_lines 0 o)) ≡ within_limit (option_map (λ m. m.node) (outline_measured o)) }
+    ensures { (o : Outline) → IsOutline o → IsUtf8Outline o
+        → reading (document_text (outline_lines 0 o)) ≡ within_limit (option_map (λ m. m.node) (outline_measured o)) }
 {}
