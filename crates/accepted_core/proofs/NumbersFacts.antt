@@ -54,11 +54,11 @@ module _ (problem : ProblemValue) (examples : List Example) (ranks : RanksValue)
   pub places_many : length ranks.places ≡ criteria task
   places_many = whole_ranks.places_many task ranks are
 
-  count_is : (i : ℕ) → i < criteria task → count_in ranks.grades i ≡ count_at task i
+  pub count_is : (i : ℕ) → i < criteria task → count_in ranks.grades i ≡ count_at task i
   unfolding count_at
   count_is i lt = ap (λ xs. length (get_or xs i [])) are.grades_are ∙ ap length (listed_at (ranked task) (criteria task) i [] lt)
 
-  place_is : (i : ℕ) → i < criteria task → get_or ranks.places i [] ≡ map (rank task i) examples
+  pub place_is : (i : ℕ) → i < criteria task → get_or ranks.places i [] ≡ map (rank task i) examples
   place_is i lt = whole_ranks.place_is task ranks are i lt
 
   pub counts_are : (counts : List ℕ) → counts ≡ listed (count_in ranks.grades) (length problem.criteria) → counts ≡ listed (count_at task) (criteria task)

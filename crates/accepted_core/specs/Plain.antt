@@ -19,7 +19,9 @@ lower_rows first count boundaries = each (λ b. lower_row (first + b * count) co
 
 -- of all criteria
 abbrev pub better_of : ℕ → List ℕ → List ℕ → List (List ℕ)
-better_of boundaries counts firsts = each (λ i. better_rows (slice_index_or firsts i 0) (slice_index_or counts i 0) boundaries) (length counts)
+better_of boundaries counts firsts =
+    each (λ i. better_rows (slice_index_or firsts i 0) (slice_index_or counts i 0) boundaries) (length counts)
 
 abbrev pub lower_of : ℕ → List ℕ → List ℕ → List (List ℕ)
-lower_of boundaries counts firsts = each (λ i. lower_rows (slice_index_or firsts i 0) (slice_index_or counts i 0) boundaries) (length counts)
+lower_of boundaries counts firsts =
+    each (λ i. lower_rows (slice_index_or firsts i 0) (slice_index_or counts i 0) boundaries) (length counts)

@@ -18,4 +18,6 @@ pub record Takes {E : Type 0} (old new : Cnf) (result : Result Unit E) (clauses 
 
 -- the unknowns of each criterion are numbers that a formula can have
 abbrev pub AreSmall : ℕ → List ℕ → List ℕ → Type 0
-AreSmall boundaries counts firsts = (i : ℕ) → i < length counts → slice_index_or firsts i 0 + boundaries * slice_index_or counts i 0 ≤ GREATEST_VARIABLE + 1
+AreSmall boundaries counts firsts =
+    (i : ℕ) → i < length counts → slice_index_or firsts i 0 + boundaries * slice_index_or counts i 0
+    ≤ GREATEST_VARIABLE + 1

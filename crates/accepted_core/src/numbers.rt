@@ -25,7 +25,8 @@ pub fn counts_of(alloc: Global, ranks: &Ranks, n: u32) -> Result<Vec<u32>, Alloc
 /// For each criterion, its first unknown.
 pub fn firsts_of(alloc: Global, boundaries: u32, counts: &[u32]) -> Result<Vec<u32>, AllocError>
     requires { boundaries * total (λ i. slice_index_or counts.now i 0) (length counts.now) ≤ GREATEST_VARIABLE }
-    ensures { IfOk result (λ firsts. firsts.items ≡ listed (λ i. 1 + boundaries * total (λ k. slice_index_or counts.now k 0) i) (length counts.now)) }
+    ensures { IfOk result (λ firsts. firsts.items
+        ≡ listed (λ i. 1 + boundaries * total (λ k. slice_index_or counts.now k 0) i) (length counts.now)) }
 {
     let mut firsts = Vec::new(alloc);
     let mut first: u32 = 1;
@@ -49,7 +50,8 @@ fn fill_row(
     requires few { length counts.now ≤ 16 }
     requires all { length counts.now ≤ length ranks.now.places }
     requires rows { (i : ℕ) → i < length counts.now → row < length (slice_index_or ranks.now.places i []) }
-    requires small { (i : ℕ) → i < length counts.now → unknown_at counts.now firsts.now ranks.now.places place row i ≤ GREATEST_VARIABLE }
+    requires small { (i : ℕ) → i < length counts.now
+        → unknown_at counts.now firsts.now ranks.now.places place row i ≤ GREATEST_VARIABLE }
     ensures { OnOk result (own.new.items ≡ row_at counts.now firsts.now ranks.now.places place row) }
 {
     own.clear();
@@ -69,7 +71,8 @@ pub fn good_rows(
     firsts: &[u32],
 ) -> Result<Rows<u32>, AllocError>
     requires { RowsFit counts.now firsts.now ranks.now.places boundaries examples.now }
-    ensures { IfOk result (λ rows. rows ≡ each (good_rows_at counts.now firsts.now ranks.now.places examples.now) (length examples.now)) }
+    ensures { IfOk result (λ rows. rows ≡ each (good_rows_at counts.now firsts.now ranks.now.places examples.now)
+        (length examples.now)) }
 {
     let mut own = Vec::new(alloc);
     let mut rows = Rows::new(alloc);
@@ -93,7 +96,9 @@ pub fn bad_rows(
     firsts: &[u32],
 ) -> Result<Rows<u32>, AllocError>
     requires { RowsFit counts.now firsts.now ranks.now.places boundaries examples.now }
-    ensures { IfOk result (λ rows. rows ≡ each (bad_rows_at counts.now firsts.now ranks.now.places boundaries examples.now) (length examples.now)) }
+    ensures { IfOk result
+        (λ rows. rows ≡ each (bad_rows_at counts.now firsts.now ranks.now.places boundaries examples.now)
+        (length examples.now)) }
 {
     let mut own = Vec::new(alloc);
     let mut rows = Rows::new(alloc);

@@ -13,7 +13,7 @@ use Rattle.chain_core.specs.declared.log.Lemma.{Lemma}
 use Rattle.chain_core.specs.declared.fault.CheckFault.{CheckFault}
 use Rattle.chain_core.specs.declared.fault.CheckFault.TheVariants.{Id, Literal, Hint, Chain}
 
--- the answer by the four tests in turn
+-- the result of the four tests in turn
 abbrev staged : ℕ → Bool → Bool → Bool → Bool → Option CheckFault
 staged line a b c d = cond (not a) (Some (Id line)) (cond b (Some (Literal line)) (cond c (Some (Hint line)) (cond d None (Some (Chain line)))))
 

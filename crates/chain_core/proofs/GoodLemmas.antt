@@ -42,7 +42,7 @@ hint_near id h e = grind (arith, nat_tests)
 pub near_hint : (id h : ℕ) → (1 ≤ h) × (h < id) → (h == 0 || nat_le id h) ≡ false
 near_hint id h e = grind (arith, nat_tests)
 
--- a lemma has no fault exactly where it is good
+-- a lemma has no fault exactly when it is good
 pub good_lemma : (variables : ℕ) (known : List (List ℕ)) (line : ℕ) (lemma : Lemma) → lemma_fault variables known line lemma ≡ None → IsGoodLemma variables known lemma
 good_lemma variables known line lemma passes =
     let first = cond_none (not (lemma.id == length known + 1)) (Id line) _ passes in

@@ -1,11 +1,11 @@
--- How a clause stands, while its literals are gone through.
+-- What is known of a clause while its literals are gone through.
 use Rattle.std.proofs.Common.{◌≡◌, ◌≢◌, ℕ, ◌+◌, ◌<◌, ◌≤◌, ◌&&◌, ◌==◌, Bool, true, false, List, ◌∷◌, Option, None, Some, not, length, get_or, drop, cond, sym, ◌∙◌, ap}
 use Rattle.std.specs.List.{filter, list_all}
 use Rattle.std.proofs.lemmas.Bool.{eq-eqb, ne_eqb, eqb-true, eqb-false, not-true, not-false}
 use Rattle.std.proofs.lemmas.List.{drop_more, drop_all}
 use Rattle.chain_core.specs.Chain.{after_open}
 
--- the answer of a scan that has found a literal, or none, with these literals left
+-- the result of a scan that has found a literal, or none, with these literals left
 abbrev pub rest_answer : (ℕ → Bool) → Option ℕ → List ℕ → (ℕ → Bool) → Bool
 rest_answer test None ls next = after_open (filter test ls) next
 rest_answer test (Some l) ls next = list_all (λ x. x == l) (filter test ls) && next l

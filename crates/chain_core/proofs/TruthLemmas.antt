@@ -43,7 +43,7 @@ negations_true v (l ∷ clause) none =
       | inr bad ↦ All-cons (IsTrueAt v) (negation l) (map negation clause) (negation_flips v l ∙ ap not bad) (negations_true v clause (sym (ap (λ b. b || clause_true v clause) bad) ∙ none))
     ]
 
--- a good lemma is true where the clauses before it are
+-- a good lemma is true if the clauses before it are
 lemma_sound : (v : ℕ → Bool) (known : List (List ℕ)) (variables : ℕ) (lemma : Lemma) → Satisfies v known → IsGoodLemma variables known lemma → clause_true v lemma.literals ≡ true
 lemma_sound v known variables lemma holds good =
     elim (cases_Bool (clause_true v lemma.literals)) [

@@ -117,7 +117,7 @@ module _ {X : Type 0} (text_of : X → List ℕ) (xs : List X) (i : ℕ) (x : X)
       subst P (sym (cut_apart lt read)) (puts-then old mid (flat_map text_of (take i xs)) was new (text_of x ++ flat_map text_of (drop (i + 1) xs)) r
       (puts-failed mid new (text_of x ++ flat_map text_of (drop (i + 1) xs)) r failed (puts-cut mid new (text_of x) (flat_map text_of (drop (i + 1) xs)) part)))
 
--- what holds anyway holds where a call succeeds
+-- what holds anyway holds if a call succeeds
 pub OnOk-known : {T E P : Type 0} (r : Result T E) → P → OnOk r P
 OnOk-known (Ok v) holds = holds
 OnOk-known (Err e) holds = tt

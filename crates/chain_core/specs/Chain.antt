@@ -1,6 +1,7 @@
 -- When the hints of a lemma lead to a false clause, as the hints of LRAT proofs do
 -- (Cruz-Filipe, Heule, Hunt, Kaufmann and Schneider-Kamp 2017).
-use Rattle.std.specs.Prelude.{ℕ, zero, suc, ◌≡◌, ◌==◌, Bool, true, false, ◌&&◌, ◌⊎◌, List, [], ◌∷◌, Option, Some, None, slice_get, map, Contains, All}
+use Rattle.std.specs.Prelude.{ℕ, zero, suc, ◌≡◌, ◌==◌, Bool, true, false, ◌&&◌, ◌⊎◌, List, [], ◌∷◌, Option, Some, None}
+use Rattle.std.specs.Prelude.{slice_get, map, Contains, All}
 use Rattle.std.specs.List.{list_all}
 use Rattle.literals_core.specs.Literal.{negation}
 use Rattle.literals_core.specs.Truth.{IsFalseUnder, open_literals}
@@ -19,10 +20,13 @@ pub record IsOnlyOpen (set clause : List ℕ) (l : ℕ) : Type 0 where
 -- a chain of hints from a set of literals: a clause that is all false ends it,
 -- and a clause with exactly one literal that is not false puts that literal into the set
 pub data Chains (clauses : List (List ℕ)) : List ℕ → List ℕ → Type 0 where
-  ends : {set hints clause : List ℕ} {h : ℕ} → clause_at clauses h ≡ Some clause → All (IsFalseUnder set) clause → Chains clauses set (h ∷ hints)
-  adds : {set hints clause : List ℕ} {h l : ℕ} → clause_at clauses h ≡ Some clause → IsOnlyOpen set clause l → Chains clauses (l ∷ set) hints → Chains clauses set (h ∷ hints)
+  ends : {set hints clause : List ℕ} {h : ℕ} → clause_at clauses h ≡ Some clause → All (IsFalseUnder set) clause
+      → Chains clauses set (h ∷ hints)
+  adds : {set hints clause : List ℕ} {h l : ℕ} → clause_at clauses h ≡ Some clause → IsOnlyOpen set clause l
+      → Chains clauses (l ∷ set) hints → Chains clauses set (h ∷ hints)
 
--- the same as a computation: no open literal ends the chain, one (maybe repeated) is the next to be set, and two different ones fail
+-- the same as a computation: no open literal ends the chain, one (maybe repeated) is the next to be set, and two
+-- different ones fail
 abbrev pub after_open : List ℕ → (ℕ → Bool) → Bool
 after_open [] next = true
 after_open (l ∷ ls) next = list_all (λ x. x == l) ls && next l

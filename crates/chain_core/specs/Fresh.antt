@@ -28,13 +28,16 @@ pub record ShowsFresh (known : List (List ℕ)) (literals set : List ℕ) : Type
 
 -- each lemma is free of pairs, and new after the clauses before it
 abbrev pub IsFresh : Cnf → List Lemma → Type 0
-IsFresh formula log = (k : ℕ) (lemma : Lemma) → slice_get log k ≡ Some lemma → HasNoPair lemma.literals × ((set : List ℕ) × ShowsFresh (known_before formula log k) lemma.literals set)
+IsFresh formula log =
+    (k : ℕ) (lemma : Lemma) → slice_get log k ≡ Some lemma
+    → HasNoPair lemma.literals × ((set : List ℕ) × ShowsFresh (known_before formula log k) lemma.literals set)
 
 -- the negations of all literals but one
 abbrev pub others_negated : ℕ → List ℕ → List ℕ
 others_negated left literals = map negation (filter (λ l. not (l == left)) literals)
 
--- unit propagation from the negations of all literals but one meets no conflict, and gives neither that one nor its negation
+-- unit propagation from the negations of all literals but one meets no conflict, and gives neither that one nor its
+-- negation
 pub record PropagationLeavesOne (known : List (List ℕ)) (literals : List ℕ) : Type 0 where
   pub left : ℕ
   pub among : Contains literals left

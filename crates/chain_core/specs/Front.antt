@@ -1,5 +1,6 @@
 -- The word at the front of a text, as a reader finds it.
-use Rattle.std.specs.Prelude.{ℕ, ◌+◌, ◌≤◌, ◌≡◌, nat_lt, List, [], ◌∷◌, Option, Some, None, length, take, drop, if◌then◌else◌}
+use Rattle.std.specs.Prelude.{ℕ, ◌+◌, ◌≤◌, ◌≡◌, nat_lt, List, [], ◌∷◌, Option, Some, None, length, take, drop}
+use Rattle.std.specs.Prelude.{if◌then◌else◌}
 use Rattle.chain_core.specs.Reading.{words_of}
 
 -- the words after a first word of n bytes
@@ -14,4 +15,5 @@ pub record StartsWith (read : List ℕ → Option ℕ) (text : List ℕ) (value 
 
 -- the first word is not read
 abbrev pub StartsWithOther : (List ℕ → Option ℕ) → List ℕ → Type 0
-StartsWithOther read text = (word : List ℕ) × ((words : List (List ℕ)) × (words_of text ≡ word ∷ words) × (read word ≡ None))
+StartsWithOther read text =
+    (word : List ℕ) × ((words : List (List ℕ)) × (words_of text ≡ word ∷ words) × (read word ≡ None))

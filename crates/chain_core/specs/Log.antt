@@ -1,5 +1,6 @@
 -- Which logs are good, and which refute a formula.
-use Rattle.std.specs.Prelude.{ℕ, ◌≡◌, ◌+◌, ◌<◌, ◌≤◌, ◌==◌, ◌||◌, nat_lt, nat_le, not, Bool, false, List, [], ◌∷◌, ◌++◌, Option, Some, None, length, if◌then◌else◌, map, take, slice_get, All}
+use Rattle.std.specs.Prelude.{ℕ, ◌≡◌, ◌+◌, ◌<◌, ◌≤◌, ◌==◌, ◌||◌, nat_lt, nat_le, not, Bool, false, List, [], ◌∷◌, ◌++◌}
+use Rattle.std.specs.Prelude.{Option, Some, None, length, if◌then◌else◌, map, take, slice_get, All}
 use Rattle.std.specs.List.{list_any}
 use Rattle.literals_core.specs.Literal.{variable_of, negation}
 use Rattle.literals_core.specs.Formula.{Cnf}
@@ -25,7 +26,9 @@ pub record IsGoodLemma (variables : ℕ) (known : List (List ℕ)) (lemma : Lemm
 
 -- each lemma is good after the clauses before it
 abbrev pub IsGood : Cnf → List Lemma → Type 0
-IsGood formula log = (k : ℕ) (lemma : Lemma) → slice_get log k ≡ Some lemma → IsGoodLemma formula.variables (known_before formula log k) lemma
+IsGood formula log =
+    (k : ℕ) (lemma : Lemma) → slice_get log k ≡ Some lemma
+    → IsGoodLemma formula.variables (known_before formula log k) lemma
 
 -- there is a last lemma, and it is the empty clause
 abbrev pub EndsEmpty : List Lemma → Type 0
@@ -52,7 +55,8 @@ or_else (Some fault) next = Some fault
 abbrev pub first_fault : ℕ → List (List ℕ) → ℕ → List Lemma → Option CheckFault
 first_fault variables known line [] = None
 first_fault variables known line (lemma ∷ lemmas) =
-    or_else (lemma_fault variables known line lemma) (first_fault variables (known ++ lemma.literals ∷ []) (line + 1) lemmas)
+    or_else (lemma_fault variables known line lemma)
+    (first_fault variables (known ++ lemma.literals ∷ []) (line + 1) lemmas)
 
 -- whether there is a last lemma and it is empty
 abbrev pub ends_empty : List Lemma → Bool

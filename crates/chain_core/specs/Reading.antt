@@ -1,5 +1,6 @@
 -- How the text of a log is read: line by line, and word by word.
-use Rattle.std.specs.Prelude.{ℕ, ◌+◌, ◌*◌, ◌==◌, ◌&&◌, ◌||◌, nat_lt, nat_le, not, List, [], ◌∷◌, Option, Some, None, Result, Ok, Err, length, slice_index, option_map, codes, if◌then◌else◌}
+use Rattle.std.specs.Prelude.{ℕ, ◌+◌, ◌*◌, ◌==◌, ◌&&◌, ◌||◌, nat_lt, nat_le, not, List, [], ◌∷◌, Option, Some, None}
+use Rattle.std.specs.Prelude.{Result, Ok, Err, length, slice_index, option_map, codes, if◌then◌else◌}
 use Rattle.std.specs.List.{slice_split}
 use Rattle.std.specs.Str.{all_ascii_digits, bytes_eq}
 use Rattle.std.specs.Str.Parse.{digits_value}
@@ -20,17 +21,20 @@ lines_of text = slice_split (λ b. b == 10) text
 -- the number of at most 32 bits that a word writes: digits without a leading zero
 abbrev pub number_in : List ℕ → Option ℕ
 number_in word =
-    if nat_lt 0 (length word) && all_ascii_digits word && (length word == 1 || not (slice_index word 0 == 48)) && nat_le (digits_value 10 word) 4294967295 then Some (digits_value 10 word)
+    if nat_lt 0 (length word) && all_ascii_digits word && (length word == 1 || not (slice_index word 0 == 48))
+    && nat_le (digits_value 10 word) 4294967295 then Some (digits_value 10 word)
     else None
 
 -- twice the number that a word writes, and one more after a `-`: the place of a literal, or 0 for the word `0`
 abbrev pub place_in : List ℕ → Option ℕ
 place_in [] = None
-place_in (c ∷ word) = if c == 45 then option_map (λ v. 2 * v + 1) (number_in word) else option_map (λ v. 2 * v) (number_in (c ∷ word))
+place_in (c ∷ word) =
+    if c == 45 then option_map (λ v. 2 * v + 1) (number_in word) else option_map (λ v. 2 * v) (number_in (c ∷ word))
 
 abbrev pub hints_then : Option ℕ → List (List ℕ) → Option (List ℕ) → Option (List ℕ)
 hints_then None words more = None
-hints_then (Some h) words more = if h == 0 then (if length words == 0 then Some [] else None) else option_map (λ hints. h ∷ hints) more
+hints_then (Some h) words more =
+    if h == 0 then (if length words == 0 then Some [] else None) else option_map (λ hints. h ∷ hints) more
 
 -- hints and the word `0`, which ends the line
 abbrev pub hints_in : List (List ℕ) → Option (List ℕ)

@@ -11,9 +11,13 @@ use Rattle.chain_core.specs.declared.fault.CheckFault.TheVariants.{Id, Literal, 
 -- the first condition of a good lemma that this one fails: its id, its literals, its hints, their chain
 pub data LemmaFails (variables : ℕ) (known : List (List ℕ)) (lemma : Lemma) (line : ℕ) : CheckFault → Type 0 where
   other_id : lemma.id ≢ length known + 1 → LemmaFails variables known lemma line (Id line)
-  high_literal : lemma.id ≡ length known + 1 → Any (λ l. variables < variable_of l) lemma.literals → LemmaFails variables known lemma line (Literal line)
-  other_hint : lemma.id ≡ length known + 1 → All (λ l. variable_of l ≤ variables) lemma.literals → Any (λ h. (h ≡ 0) ⊎ (lemma.id ≤ h)) lemma.hints → LemmaFails variables known lemma line (Hint line)
-  no_chain : lemma.id ≡ length known + 1 → All (λ l. variable_of l ≤ variables) lemma.literals → All (λ h. (1 ≤ h) × (h < lemma.id)) lemma.hints → ¬ Chains known (map negation lemma.literals) lemma.hints → LemmaFails variables known lemma line (Chain line)
+  high_literal : lemma.id ≡ length known + 1 → Any (λ l. variables < variable_of l) lemma.literals
+      → LemmaFails variables known lemma line (Literal line)
+  other_hint : lemma.id ≡ length known + 1 → All (λ l. variable_of l ≤ variables) lemma.literals
+      → Any (λ h. (h ≡ 0) ⊎ (lemma.id ≤ h)) lemma.hints → LemmaFails variables known lemma line (Hint line)
+  no_chain : lemma.id ≡ length known + 1 → All (λ l. variable_of l ≤ variables) lemma.literals
+      → All (λ h. (1 ≤ h) × (h < lemma.id)) lemma.hints → ¬ Chains known (map negation lemma.literals) lemma.hints
+      → LemmaFails variables known lemma line (Chain line)
 
 -- a lemma fails, and those before it are good; the first lemma is on line 2
 pub record FailsFirst (formula : Cnf) (log : List Lemma) (fault : CheckFault) : Type 0 where

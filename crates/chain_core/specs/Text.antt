@@ -28,7 +28,9 @@ size_words variables clauses = codes "p" ∷ codes "cnf" ∷ decimal variables �
 
 -- a formula in DIMACS: the line `p cnf VARIABLES CLAUSES`, and a line for each clause
 abbrev pub dimacs_text : Cnf → List ℕ
-dimacs_text formula = line_of (size_words formula.variables (length formula.clauses)) ++ flat_map (λ clause. line_of (clause_words clause)) formula.clauses
+dimacs_text formula =
+    line_of (size_words formula.variables (length formula.clauses))
+    ++ flat_map (λ clause. line_of (clause_words clause)) formula.clauses
 
 -- a lemma: its id, its literals and `0`, its hints and `0`
 abbrev pub lemma_words : Lemma → List (List ℕ)

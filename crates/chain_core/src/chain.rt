@@ -2,7 +2,8 @@
 //!
 //! The set of literals that a chain keeps is a table of stamps with a place for each literal: a
 //! literal is false if its stamp is that of the lemma. So nothing is cleared between lemmas.
-ghost use Rattle.std.specs.Prelude.{◌≡◌, Bool, ℕ, List, not, ◌==◌, ◌+◌, ◌<◌, ◌≤◌, length, map, filter, Contains, All, Some, slice_index};
+ghost use Rattle.std.specs.Prelude.{◌≡◌, Bool, ℕ, List, not, ◌==◌, ◌+◌, ◌<◌, ◌≤◌, length, map, filter, Contains, All};
+ghost use Rattle.std.specs.Prelude.{Some, slice_index};
 ghost use Rattle.literals_core.specs.Literal.{negation};
 ghost use Rattle.chain_core.specs.Chain.{after_open, chain_from, clause_at};
 ghost use Rattle.chain_core.specs.Log.{known_before};
@@ -23,7 +24,8 @@ pub enum OpenLiterals {
 /// Looks for the literals of a clause that are not false, up to a second distinct one.
 fn open_literals_of(clause: &[Literal], stamps: &[u32], stamp: u32) -> OpenLiterals
     requires { All (λ l. l < length stamps.now) clause.now }
-    ensures answer { (next : ℕ → Bool) → after_open (filter (λ l. not (slice_index stamps.now l == stamp)) clause.now) next ≡ open_answer result next }
+    ensures answer { (next : ℕ → Bool)
+        → after_open (filter (λ l. not (slice_index stamps.now l == stamp)) clause.now) next ≡ open_answer result next }
     ensures among { IfOne result (Contains clause.now) }
 {
     let mut found: Option<Literal> = None;
@@ -61,7 +63,8 @@ pub fn mark_all(literals: &[Literal], stamps: &mut [u32], stamp: u32)
 fn known_clause<'a>(formula: &'a Formula, log: &'a Log, id: u32) -> &'a [Literal]
     requires from { 1 ≤ id }
     requires to { id ≤ length formula.now.clauses + length log.now }
-    ensures { (k : ℕ) → k ≤ length log.now → id ≤ length formula.now.clauses + k → clause_at (known_before formula.now log.now k) id ≡ Some result.now }
+    ensures { (k : ℕ) → k ≤ length log.now → id ≤ length formula.now.clauses + k
+        → clause_at (known_before formula.now log.now k) id ≡ Some result.now }
 {
     let count = formula.count();
     if id <= count {
@@ -83,9 +86,11 @@ pub fn follow(
 ) -> bool
     requires earlier { k ≤ length log.now }
     requires hints { All (λ h. (1 ≤ h) × (h ≤ length formula.now.clauses + k)) hints.now }
-    requires range { All (All (λ l. (l < length stamps.old) × (negation l < length stamps.old))) (known_before formula.now log.now k) }
+    requires range { All (All (λ l. (l < length stamps.old) × (negation l < length stamps.old)))
+        (known_before formula.now log.now k) }
     requires bound { All (λ s. s ≤ stamp) stamps.old }
-    ensures answer { (set : List ℕ) → IsMarked stamps.old stamp set → result ≡ chain_from (known_before formula.now log.now k) set hints.now }
+    ensures answer { (set : List ℕ) → IsMarked stamps.old stamp set
+        → result ≡ chain_from (known_before formula.now log.now k) set hints.now }
     ensures bound { All (λ s. s ≤ stamp) stamps.new }
 {
     for hint in hints {

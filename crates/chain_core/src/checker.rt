@@ -1,11 +1,13 @@
 //! Checks which logs refute a formula.
-ghost use Rattle.std.specs.Prelude.{◌≡◌, ◌↔◌, ◌==◌, ◌||◌, nat_lt, nat_le, ◌+◌, ◌*◌, ◌<◌, ◌≤◌, ◌⊎◌, length, MatchResult, All, OnOk, Some, None};
+ghost use Rattle.std.specs.Prelude.{◌≡◌, ◌↔◌, ◌==◌, ◌||◌, nat_lt, nat_le, ◌+◌, ◌*◌, ◌<◌, ◌≤◌, ◌⊎◌, length, MatchResult};
+ghost use Rattle.std.specs.Prelude.{All, OnOk, Some, None};
 ghost use Rattle.std.specs.Bool.{OnFalse};
 ghost use Rattle.std.specs.List.{list_any};
 ghost use Rattle.lists_core.specs.declared.list_of.TheConstants.{MOST_ITEMS};
 ghost use Rattle.literals_core.specs.Literal.{variable_of};
 ghost use Rattle.literals_core.specs.Formula.{InRange};
-ghost use Rattle.chain_core.specs.Log.{known_before, lemma_fault, first_fault, refutation_fault, IsRefutation, ends_empty};
+ghost use Rattle.chain_core.specs.Log.{known_before, lemma_fault, first_fault, refutation_fault, IsRefutation};
+ghost use Rattle.chain_core.specs.Log.{ends_empty};
 ghost use Rattle.chain_core.specs.Refusal.{IsRefused};
 ghost use Rattle.chain_core.specs.declared.fault.CheckFault.{CheckFault};
 ghost use Rattle.chain_core.specs.declared.fault.CheckFault.TheVariants.{NoMemory};
@@ -53,7 +55,8 @@ pub fn check(alloc: Global, formula: &Formula, log: Log) -> Result<Accepted, Che
     ensures answer { MatchResult result (λ accepted. (accepted ≡ log) × IsRefutation formula.now log)
         (λ fault. (fault ≡ NoMemory) ⊎ (refutation_fault formula.now log ≡ Some fault)) }
     ensures exact { (refutation_fault formula.now log ≡ None) ↔ IsRefutation formula.now log }
-    ensures cause { (fault : CheckFault) → (refutation_fault formula.now log ≡ Some fault) ↔ IsRefused formula.now log fault }
+    ensures cause { (fault : CheckFault)
+        → (refutation_fault formula.now log ≡ Some fault) ↔ IsRefused formula.now log fault }
     ensures unsatisfiable { OnOk result (IsUnsatisfiable formula.now) }
 {
     let places = 2 * formula.variables() as usize + 2;
@@ -97,7 +100,8 @@ fn check_lemma(
     requires range { InRange formula.now.variables (known_before formula.now log.now k) }
     ensures answer { MatchResult result
         (λ _. lemma_fault formula.now.variables (known_before formula.now log.now k) (k + 2) lemma.now ≡ None)
-        (λ fault. lemma_fault formula.now.variables (known_before formula.now log.now k) (k + 2) lemma.now ≡ Some fault) }
+        (λ fault. lemma_fault formula.now.variables (known_before formula.now log.now k) (k + 2) lemma.now
+        ≡ Some fault) }
     ensures range { OnOk result (All (λ l. variable_of l ≤ formula.now.variables) lemma.now.literals) }
     ensures bound { All (λ s. s ≤ k + 1) stamps.new }
 {

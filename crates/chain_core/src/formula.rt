@@ -31,7 +31,8 @@ impl Model for Formula {
 
     ghost view = { λ a. record { variables = a.variables; clauses = a.clauses } };
 
-    ghost invariant = { λ a. (a.variables ≤ GREATEST_VARIABLE) × (length a.clauses ≤ MOST_CLAUSES) × InRange a.variables a.clauses × All (All (λ l. 1 ≤ variable_of l)) a.clauses };
+    ghost invariant = { λ a. (a.variables ≤ GREATEST_VARIABLE) × (length a.clauses ≤ MOST_CLAUSES)
+        × InRange a.variables a.clauses × All (All (λ l. 1 ≤ variable_of l)) a.clauses };
 }
 
 impl Formula {

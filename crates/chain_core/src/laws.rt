@@ -1,4 +1,5 @@
-//! Laws of chains, refutations and fresh logs, and the limits as numbers. Each is the contract of a function that does nothing.
+//! Laws of chains, refutations and fresh logs, and the limits as numbers. Each is the contract of a function that does
+//! nothing.
 
 ghost use Rattle.std.specs.Prelude.{◌≡◌, ◌↔◌, ℕ, true, List, Some, slice_get, All, Contains};
 ghost use Rattle.lists_core.specs.declared.list_of.TheConstants.{MOST_ITEMS};
@@ -15,7 +16,8 @@ ghost use Rattle.chain_core.specs.declared.read.TheConstants.{MOST_BYTES};
 
 /// From any set, hints are computed to succeed exactly when they are a chain.
 pub fn computed_chain_is_a_chain()
-    ensures { (clauses : List (List ℕ)) (set hints : List ℕ) → (chain_from clauses set hints ≡ true) ↔ Chains clauses set hints }
+    ensures { (clauses : List (List ℕ)) (set hints : List ℕ)
+        → (chain_from clauses set hints ≡ true) ↔ Chains clauses set hints }
 {}
 
 /// A formula with a refutation is unsatisfiable: no values make every clause true.
@@ -23,17 +25,19 @@ pub fn refutation_means_unsatisfiable()
     ensures { (formula : Cnf) (log : List Lemma) → IsRefutation formula log → IsUnsatisfiable formula }
 {}
 
-/// A lemma of a fresh log is no weaker copy of a clause before it: it has all literals of no clause of the formula and of
-/// no earlier lemma.
+/// A lemma of a fresh log is no weaker copy of a clause before it: it has all literals of no clause of the formula and
+/// of no earlier lemma.
 pub fn fresh_lemma_is_no_weaker_copy()
-    ensures { (formula : Cnf) (log : List Lemma) (k : ℕ) (lemma : Lemma) (clause : List ℕ) → IsFresh formula log → slice_get log k ≡ Some lemma
+    ensures { (formula : Cnf) (log : List Lemma) (k : ℕ) (lemma : Lemma) (clause : List ℕ) → IsFresh formula log
+        → slice_get log k ≡ Some lemma
         → Contains (known_before formula log k) clause → ¬ All (Contains lemma.literals) clause }
 {}
 
-/// A lemma of a fresh log says more than unit propagation does: over the clauses before it, unit propagation from the negations of all
-/// its literals but one meets no conflict, and assigns that one neither way.
+/// A lemma of a fresh log says more than unit propagation does: over the clauses before it, unit propagation from the
+/// negations of all its literals but one meets no conflict, and assigns that one neither way.
 pub fn propagation_gives_no_fresh_lemma()
-    ensures { (formula : Cnf) (log : List Lemma) (k : ℕ) (lemma : Lemma) → IsFresh formula log → slice_get log k ≡ Some lemma
+    ensures { (formula : Cnf) (log : List Lemma) (k : ℕ) (lemma : Lemma) → IsFresh formula log
+        → slice_get log k ≡ Some lemma
         → PropagationLeavesOne (known_before formula log k) lemma.literals }
 {}
 

@@ -1,5 +1,6 @@
 //! Reads the word at the front of a text, as a number or as a literal.
-ghost use Rattle.std.specs.Prelude.{◌≡◌, ◌≢◌, ◌==◌, ◌∷◌, ◌||◌, not, ◌+◌, ◌<◌, ◌≤◌, length, min, take, slice_index, MatchOption, false, ⊤};
+ghost use Rattle.std.specs.Prelude.{◌≡◌, ◌≢◌, ◌==◌, ◌∷◌, ◌||◌, not, ◌+◌, ◌<◌, ◌≤◌, length, min, take, slice_index};
+ghost use Rattle.std.specs.Prelude.{MatchOption, false, ⊤};
 ghost use Rattle.std.specs.Char.{is_ascii_digit};
 ghost use Rattle.std.specs.Str.Parse.{AllDigits, digits_value};
 ghost use Rattle.chain_core.specs.Reading.{number_in, place_in};
@@ -17,7 +18,8 @@ pub struct Front {
 
 /// The number that the first word of a text writes.
 pub fn front_number(text: &[u8]) -> Option<Front>
-    ensures word { MatchOption result (StartsWithOther number_in text.now) (λ f. StartsWith number_in text.now f.value f.len) }
+    ensures word { MatchOption result (StartsWithOther number_in text.now)
+        (λ f. StartsWith number_in text.now f.value f.len) }
     ensures few { MatchOption result ⊤ (λ f. f.value ≤ MOST_ID) }
 {
     let digits = front_digits(text);
@@ -31,7 +33,8 @@ pub fn front_number(text: &[u8]) -> Option<Front>
 
 /// The place of the literal that the first word of a text writes, and 0 for the word `0`.
 pub fn front_place(text: &[u8]) -> Option<Front>
-    ensures word { MatchOption result (StartsWithOther place_in text.now) (λ f. StartsWith place_in text.now f.value f.len) }
+    ensures word { MatchOption result (StartsWithOther place_in text.now)
+        (λ f. StartsWith place_in text.now f.value f.len) }
 {
     match after_minus(text) {
         Some(rest) => {

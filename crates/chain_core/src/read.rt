@@ -1,8 +1,10 @@
 //! Reads logs from their texts.
-ghost use Rattle.std.specs.Prelude.{◌≡◌, ◌==◌, ◌⊎◌, ◌+◌, ◌<◌, ◌≤◌, ℕ, List, [], ◌∷◌, ◌++◌, ◌↔◌, All, length, drop, vec_len, MatchResult, IfOk, Ok, Err, Some, None, option_map, position};
+ghost use Rattle.std.specs.Prelude.{◌≡◌, ◌==◌, ◌⊎◌, ◌+◌, ◌<◌, ◌≤◌, ℕ, List, [], ◌∷◌, ◌++◌, ◌↔◌, All, length, drop};
+ghost use Rattle.std.specs.Prelude.{vec_len, MatchResult, IfOk, Ok, Err, Some, None, option_map, position};
 ghost use Rattle.lists_core.specs.declared.list_of.TheConstants.{MOST_ITEMS};
 ghost use Rattle.chain_core.specs.Lemma.{IsNumbered, IsWritable};
-ghost use Rattle.chain_core.specs.Reading.{words_of, lines_of, hints_in, literals_in, lemma_in, lemmas_in, encoding_in, log_of};
+ghost use Rattle.chain_core.specs.Reading.{words_of, lines_of, hints_in, literals_in, lemma_in, lemmas_in, encoding_in};
+ghost use Rattle.chain_core.specs.Reading.{log_of};
 ghost use Rattle.chain_core.specs.Text.{log_text};
 ghost use Rattle.literals_core.specs.declared.encoding.Encoding.{Encoding};
 ghost use Rattle.chain_core.specs.declared.log.Lemma.{Lemma};
@@ -134,7 +136,8 @@ fn read_literals(
     requires from { from ≤ length text.now }
     ensures answer { MatchResult result
         (λ next. (next ≤ length text.now) × ((read : List ℕ) × (literals.new.items ≡ literals.old.items ++ read)
-        × (literals_in (words_of (drop from text.now)) ≡ option_map (λ hs. (read, hs)) (hints_in (words_of (drop next text.now))))))
+        × (literals_in (words_of (drop from text.now))
+        ≡ option_map (λ hs. (read, hs)) (hints_in (words_of (drop next text.now))))))
         (λ fault. (fault ≡ NoMemory) ⊎ ((fault ≡ Shape line) × (literals_in (words_of (drop from text.now)) ≡ None))) }
     ensures few { vec_len literals.new ≤ vec_len literals.old + length text.now }
 {
@@ -163,7 +166,8 @@ fn read_hints(text: &[u8], from: usize, line: u32, hints: &mut Vec<u32>) -> Resu
     requires few { length text.now ≤ MOST_BYTES }
     requires from { from ≤ length text.now }
     ensures answer { MatchResult result
-        (λ _. (read : List ℕ) × (hints.new.items ≡ hints.old.items ++ read) × (hints_in (words_of (drop from text.now)) ≡ Some read))
+        (λ _. (read : List ℕ) × (hints.new.items ≡ hints.old.items ++ read)
+        × (hints_in (words_of (drop from text.now)) ≡ Some read))
         (λ fault. (fault ≡ NoMemory) ⊎ ((fault ≡ Shape line) × (hints_in (words_of (drop from text.now)) ≡ None))) }
     ensures few { vec_len hints.new ≤ vec_len hints.old + length text.now }
 {

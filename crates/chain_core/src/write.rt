@@ -6,7 +6,8 @@ ghost use Rattle.chain_core.specs.Literal.{IsPlace};
 ghost use Rattle.chain_core.specs.Lemma.{IsNumbered, IsWritable};
 ghost use Rattle.chain_core.specs.Reading.{log_of};
 ghost use Rattle.chain_core.specs.declared.number.TheConstants.{MOST_ID};
-ghost use Rattle.chain_core.specs.Text.{line_of, sign_text, literal_word, size_words, clause_words, dimacs_text, lemma_words, header_words, log_text};
+ghost use Rattle.chain_core.specs.Text.{line_of, sign_text, literal_word, size_words, clause_words, dimacs_text};
+ghost use Rattle.chain_core.specs.Text.{lemma_words, header_words, log_text};
 
 use crate::formula::Formula;
 use crate::literal::Literal;
@@ -23,7 +24,8 @@ pub fn put_dimacs(formula: &Formula, out: &mut Vec<u8>) -> Result<(), AllocError
     put_clauses(formula, out)
 }
 
-/// Appends the text of a log, which reads as that encoding and log. If memory runs out, a prefix of the text was appended.
+/// Appends the text of a log, which reads as that encoding and log. If memory runs out, a prefix of the text was
+/// appended.
 pub fn write_log(encoding: Encoding, log: &Log, out: &mut Vec<u8>) -> Result<(), AllocError>
     ensures text { Puts out.old.items out.new.items result (log_text encoding log.now) }
     ensures reads_back { OnOk result (log_of (log_text encoding log.now) ≡ Ok (encoding, log.now)) }
@@ -44,7 +46,8 @@ fn put_size(variables: u32, clauses: u32, out: &mut Vec<u8>) -> Result<(), Alloc
 
 /// Appends the line of each clause.
 fn put_clauses(formula: &Formula, out: &mut Vec<u8>) -> Result<(), AllocError>
-    ensures { Puts out.old.items out.new.items result (flat_map (λ clause. line_of (clause_words clause)) formula.now.clauses) }
+    ensures { Puts out.old.items out.new.items result
+        (flat_map (λ clause. line_of (clause_words clause)) formula.now.clauses) }
 {
     for k in 0..formula.count() {
         put_clause(formula.clause(k + 1), out)?;

@@ -8,7 +8,9 @@ use Rattle.accepted_core.specs.Plain.{better_of, lower_of}
 use Rattle.coalition_core.specs.Plain.{larger_of_sets, bads_clauses, goods_clauses}
 
 abbrev pub sets_of : Numbers → List (List ℕ)
-sets_of u = larger_of_sets (u.accepted + 1) (length u.counts) ++ (bads_clauses (u.accepted + 1) u.bads ++ goods_clauses (u.accepted + 1) u.goods)
+sets_of u =
+    larger_of_sets (u.accepted + 1) (length u.counts)
+    ++ (bads_clauses (u.accepted + 1) u.bads ++ goods_clauses (u.accepted + 1) u.goods)
 
 abbrev pub plain_clauses : Numbers → List (List ℕ)
 plain_clauses u = better_of u.boundaries u.counts u.firsts ++ (lower_of u.boundaries u.counts u.firsts ++ sets_of u)

@@ -20,7 +20,8 @@ larger_of_sets first n = each (larger_of_set first n) (2 ^ n)
 
 -- the literals of a set's criteria, and then a last one
 abbrev pub set_clause : List ℕ → ℕ → ℕ → List ℕ
-set_clause literals set last = each (λ i. if has set i then slice_index_or literals i 0 ∷ [] else []) (length literals) ++ last ∷ []
+set_clause literals set last =
+    each (λ i. if has set i then slice_index_or literals i 0 ∷ [] else []) (length literals) ++ last ∷ []
 
 -- of a bad example, by its literals, with each set
 abbrev pub bad_clauses : ℕ → List ℕ → List (List ℕ)
@@ -28,7 +29,8 @@ bad_clauses first literals = listed (λ set. set_clause literals set (minus (fir
 
 -- of a good example
 abbrev pub good_clauses : ℕ → List ℕ → List (List ℕ)
-good_clauses first literals = listed (λ set. set_clause literals set (plus (first + (2 ^ length literals - 1 - set)))) (2 ^ length literals)
+good_clauses first literals =
+    listed (λ set. set_clause literals set (plus (first + (2 ^ length literals - 1 - set)))) (2 ^ length literals)
 
 -- of examples, by the rows of their unknowns
 abbrev pub bads_clauses : ℕ → List (List ℕ) → List (List ℕ)

@@ -20,7 +20,8 @@ use table_core::Examples;
 /// The most criteria of which all coalitions are considered.
 pub const MOST_COALITION_CRITERIA: u32 = 12;
 
-/// Returns the coalition formula of examples of a problem, with an unknown for each set of criteria (Belahcène and others
+/// Returns the coalition formula of examples of a problem, with an unknown for each set of criteria (Belahcène and
+/// others
 /// 2018). If no values make every clause true, no model restores the examples.
 ///
 /// The error is `Wide` if there are more than [`MOST_COALITION_CRITERIA`] criteria, else `TooLarge`, with the number of

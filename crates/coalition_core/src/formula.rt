@@ -24,7 +24,8 @@ fn formula_from(
     bads: &Rows<u32>,
 ) -> Result<Formula, AllocError>
     requires { HasTask (numbers boundaries accepted counts.now firsts.now goods.now bads.now) }
-    ensures { IfOk result (λ formula. formula ≡ plain_formula (numbers boundaries accepted counts.now firsts.now goods.now bads.now)) }
+    ensures { IfOk result (λ formula. formula
+        ≡ plain_formula (numbers boundaries accepted counts.now firsts.now goods.now bads.now)) }
 {
     let n = counts.len() as u32;
     let mut formula = Formula::new(alloc, accepted + power(n));
@@ -37,7 +38,8 @@ fn formula_from(
 /// The coalition formula of a small task, by the numbers of its unknowns.
 pub fn coalitions_of(alloc: Global, unknowns: &Unknowns) -> Result<Formula, AllocError>
     requires { HasTask unknowns.now }
-    ensures { IfOk result (λ formula. (task : Task) → AreNumbers task unknowns.now → formula ≡ formula_of Coalitions task) }
+    ensures { IfOk result
+        (λ formula. (task : Task) → AreNumbers task unknowns.now → formula ≡ formula_of Coalitions task) }
 {
     formula_from(
         alloc,

@@ -3,7 +3,8 @@ ghost use Rattle.std.specs.Prelude.{◌≡◌, ◌≤◌, ◌<◌, ◌+◌, ◌^
 ghost use Rattle.chain_core.specs.declared.literal.TheConstants.{GREATEST_VARIABLE};
 ghost use Rattle.literals_core.specs.Formula.{plus, minus};
 ghost use Rattle.accepted_core.specs.Takes.{CanTake, Takes};
-ghost use Rattle.coalition_core.specs.Plain.{IsUnknown, set_clause, bad_clauses, good_clauses, bads_clauses, goods_clauses};
+ghost use Rattle.coalition_core.specs.Plain.{IsUnknown, set_clause, bad_clauses, good_clauses, bads_clauses};
+ghost use Rattle.coalition_core.specs.Plain.{goods_clauses};
 
 use crate::sets::{has, power};
 use accepted_core::{minus, plus};

@@ -65,7 +65,9 @@ pub fn coalition_literals(categories: u32, n: u32, examples: &Examples, ranks: &
     requires few_criteria { n ≤ 12 }
     requires ranks { n ≤ length ranks.now.grades }
     ensures few { length examples.now ≤ 4000000000 }
-    ensures value { result ≡ literals_of (categories - 1) (total (count_in ranks.now.grades) n) (total (λ i. count_in ranks.now.grades i - 1) n) n (length (good_ones examples.now)) (length (bad_ones categories examples.now)) }
+    ensures value { result ≡ literals_of (categories - 1) (total (count_in ranks.now.grades) n)
+        (total (λ i. count_in ranks.now.grades i - 1) n) n (length (good_ones examples.now))
+        (length (bad_ones categories examples.now)) }
 {
     literals_count(
         categories - 1,

@@ -62,7 +62,7 @@ row-after g now row n next is step =
 
 -- ---- texts
 
--- what stands in a text of pieces from one of them on
+-- what is in a text of pieces from one of them on
 each-rest : (f : ℕ → List ℕ) (n k : ℕ) → k < n → (rest : List ℕ) × (each f n ≡ each f k ++ (f k ++ rest))
 each-rest f zero k lt = absurd (omega (arith, lt))
 each-rest f (suc n) k lt = elim (cases_lt k n) [

@@ -1,6 +1,7 @@
 -- The model that words draw for a problem: words for the thresholds of each criterion, then one for each weight, then
 -- one for the sum that is enough.
-use Rattle.std.specs.Prelude.{ℕ, zero, suc, ◌+◌, ◌-◌, ◌*◌, ◌/◌, ◌^◌, if◌then◌else◌, nat_le, ℤ, pos, List, [], ◌∷◌, length, map, replicate, Some}
+use Rattle.std.specs.Prelude.{ℕ, zero, suc, ◌+◌, ◌-◌, ◌*◌, ◌/◌, ◌^◌, if◌then◌else◌, nat_le, ℤ, pos, List, [], ◌∷◌}
+use Rattle.std.specs.Prelude.{length, map, replicate, Some}
 use Rattle.problem_core.specs.Problem.{ProblemValue}
 use Rattle.model_core.specs.Model.{ModelValue, boundaries_of}
 use Rattle.model_core.specs.declared.model.Coalitions.TheVariants.{Weights}
@@ -21,7 +22,8 @@ rising_values f (suc n) = put_in (f n) (rising_values f n)
 
 -- the choice that is drawn for a criterion as number h of its thresholds, before they are put in order
 abbrev pub drawn_choice : ProblemValue → List ℕ → ℕ → ℕ → ℕ
-drawn_choice problem words i h = number_at words (i * boundaries_of problem + h) (choice_count (scale_at problem.criteria i))
+drawn_choice problem words i h =
+    number_at words (i * boundaries_of problem + h) (choice_count (scale_at problem.criteria i))
 
 -- the choices of a criterion in order
 abbrev pub drawn_choices : ProblemValue → List ℕ → ℕ → List ℕ
@@ -29,7 +31,8 @@ drawn_choices problem words i = rising_values (drawn_choice problem words i) (bo
 
 -- a criterion with its thresholds
 abbrev pub drawn_profile : ProblemValue → List ℕ → ℕ → Profile
-drawn_profile problem words i = record { thresholds = map (λ c. Some (chosen (scale_at problem.criteria i) c)) (drawn_choices problem words i) }
+drawn_profile problem words i =
+    record { thresholds = map (λ c. Some (chosen (scale_at problem.criteria i) c)) (drawn_choices problem words i) }
 
 -- the share of a criterion, from 1 to 1000
 abbrev pub drawn_share : ProblemValue → List ℕ → ℕ → ℕ

@@ -30,7 +30,8 @@ drawn_scale kind =
 
 -- the criterion at a place; names count from 1
 abbrev pub drawn_criterion : List ℕ → ℕ → Criterion
-drawn_criterion words i = record { name = numbered (codes "Criterion ") (i + 1); scale = drawn_scale (number_at words i 4) }
+drawn_criterion words i =
+    record { name = numbered (codes "Criterion ") (i + 1); scale = drawn_scale (number_at words i 4) }
 
 -- the category at a place
 abbrev pub drawn_category : ℕ → List ℕ
@@ -38,4 +39,5 @@ drawn_category j = numbered (codes "Category ") (j + 1)
 
 -- so many criteria and categories
 unfoldable pub drawn_problem : ℕ → ℕ → List ℕ → ProblemValue
-drawn_problem criteria categories words = record { criteria = listed (drawn_criterion words) criteria; categories = listed drawn_category categories }
+drawn_problem criteria categories words =
+    record { criteria = listed (drawn_criterion words) criteria; categories = listed drawn_category categories }

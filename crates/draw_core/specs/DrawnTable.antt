@@ -19,7 +19,8 @@ drawn_grade scale word = chosen scale (word % choice_count scale)
 
 -- the grade of a row on a criterion, both by their places from 0
 abbrev pub row_grade : ProblemValue → List ℕ → ℕ → ℕ → ℤ
-row_grade problem words row i = drawn_grade (scale_at problem.criteria i) (slice_index_or words (row * length problem.criteria + i) 0)
+row_grade problem words row i =
+    drawn_grade (scale_at problem.criteria i) (slice_index_or words (row * length problem.criteria + i) 0)
 
 -- the grades of a row
 abbrev pub row_grades : ProblemValue → List ℕ → ℕ → List ℤ
@@ -35,7 +36,8 @@ AreGrades problem grades = AllZip (λ criterion grade. IsGrade criterion.scale g
 
 -- a row as an example: the rule gives its category
 abbrev pub drawn_example : ProblemValue → Model → List ℕ → ℕ → Example
-drawn_example problem rule words row = record { grades = row_grades problem words row; category = category rule (row_grades problem words row) }
+drawn_example problem rule words row =
+    record { grades = row_grades problem words row; category = category rule (row_grades problem words row) }
 
 -- so many rows as examples
 unfoldable pub drawn_examples : ProblemValue → Model → ℕ → List ℕ → List Example
@@ -43,12 +45,14 @@ drawn_examples problem rule rows words = listed (drawn_example problem rule word
 
 -- the cells of a row: its grades as texts
 abbrev pub cells_of : ProblemValue → List ℤ → List (List ℕ)
-cells_of problem grades = listed (λ i. grade_text (scale_at problem.criteria i) (slice_index_or grades i (pos 0))) (length problem.criteria)
+cells_of problem grades =
+    listed (λ i. grade_text (scale_at problem.criteria i) (slice_index_or grades i (pos 0))) (length problem.criteria)
 
 -- the fields of a row with these grades: a name with the number of the row, from 1; the cells; the name of the category
 abbrev pub fields_of : ProblemValue → Model → ℕ → List ℤ → List (List ℕ)
 fields_of problem rule row grades =
-    numbered (codes "Alternative ") (row + 1) ∷ (cells_of problem grades ++ slice_index_or problem.categories (category rule grades) [] ∷ [])
+    numbered (codes "Alternative ") (row + 1)
+    ∷ (cells_of problem grades ++ slice_index_or problem.categories (category rule grades) [] ∷ [])
 
 -- the record of a row
 abbrev pub drawn_record : ProblemValue → Model → List ℕ → ℕ → List ℕ

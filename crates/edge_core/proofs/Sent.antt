@@ -31,10 +31,10 @@ sent_on old mid new bytes rest k m e s a = subst (Sent old new bytes) (sym (ap (
 pub sent_kept : (old mid new : Option (List ℕ)) (bytes rest : List ℕ) → Sent old mid bytes rest → Keeps mid new → Sent old new bytes rest
 sent_kept old mid new bytes rest s k = record { front = s.front; parts = s.parts; went = Appends-kept old mid new s.front s.went k }
 
--- a part went out where something is left
+-- a part went out if something is left
 pub sent_part : (old new : Option (List ℕ)) (bytes rest : List ℕ) → Sent old new bytes rest → rest ≢ [] → AppendsPart old new bytes
 sent_part old new bytes rest s unsent = record { front = s.front; rest = rest; parts = s.parts; unsent = unsent; went = s.went }
 
--- all went out where nothing is left
+-- all went out if nothing is left
 pub sent_all : (old new : Option (List ℕ)) (bytes rest : List ℕ) → Sent old new bytes rest → rest ≡ [] → Appends old new bytes
 sent_all old new bytes rest s e = subst (Appends old new) (sym (s.parts ∙ ap (λ l. s.front ++ l) e ∙ append-nil s.front)) s.went

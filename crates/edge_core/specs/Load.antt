@@ -12,7 +12,8 @@ LoadsAs bytes (Err TooLong) = 67108864 < length bytes
 LoadsAs bytes (Err Read) = ⊤
 LoadsAs bytes (Err NoMemory) = ⊤
 
--- the file of this name is open, and if the shelf tells what it holds, what is left of the file comes after what was taken
+-- the file of this name is open, and if the shelf tells what it holds, what is left of the file comes after what was
+-- taken
 pub record IsOpenAt (held : Option Files) (name : List ℕ) (state : ShelfState) : Type 0 where
   pub opened : state.opened ≡ Some name
   pub left : IfSome held (λ files. state.left ≡ Some (drop state.taken (bytes_of files name)))

@@ -16,7 +16,9 @@ no_names = record { asked = []; opened = None; missed = None }
 
 -- the names after what a call did
 abbrev pub names_after : Names → Event → Names
-names_after names (Opened name) = record { asked = names.asked ++ name.now ∷ []; opened = Some name.now; missed = names.missed }
-names_after names (NotOpened name) = record { asked = names.asked ++ name.now ∷ []; opened = None; missed = Some name.now }
+names_after names (Opened name) =
+    record { asked = names.asked ++ name.now ∷ []; opened = Some name.now; missed = names.missed }
+names_after names (NotOpened name) =
+    record { asked = names.asked ++ name.now ∷ []; opened = None; missed = Some name.now }
 names_after names NotRead = record { asked = names.asked; opened = names.opened; missed = names.opened }
 names_after names Closed = record { asked = names.asked; opened = None; missed = names.missed }

@@ -1,5 +1,6 @@
 //! Files in memory, the newest first.
-ghost use Rattle.std.specs.Prelude.{◌≡◌, ◌+◌, ◌-◌, ◌<◌, ◌≤◌, ◌++◌, [], None, length, take, drop, IfNone, IfSome, OnOk, OnErr, ◌⊎◌};
+ghost use Rattle.std.specs.Prelude.{◌≡◌, ◌+◌, ◌-◌, ◌<◌, ◌≤◌, ◌++◌, [], None, length, take, drop, IfNone, IfSome, OnOk};
+ghost use Rattle.std.specs.Prelude.{OnErr, ◌⊎◌};
 ghost use Rattle.edge_core.specs.Held.{held_in, Holds, bytes_at, bytes_of_place};
 
 use std::alloc::{AllocError, Global};
@@ -76,7 +77,8 @@ pub(crate) fn copy_next_at(
 ) -> usize
     ensures bound { result ≤ length buf.new }
     ensures small { result ≤ length (bytes_of_place files.now place) - taken }
-    ensures next { drop taken (bytes_of_place files.now place) ≡ take result buf.new ++ drop (taken + result) (bytes_of_place files.now place) }
+    ensures next { drop taken (bytes_of_place files.now place) ≡ take result buf.new
+        ++ drop (taken + result) (bytes_of_place files.now place) }
     ensures end { result ≡ 0 → 0 < length buf.new → drop (taken + result) (bytes_of_place files.now place) ≡ [] }
     ensures rest { drop result buf.new ≡ drop result buf.old }
 {

@@ -1,5 +1,6 @@
 //! A shelf in memory, whose calls fail when they are told to.
-ghost use Rattle.std.specs.Prelude.{◌≡◌, ◌+◌, ◌++◌, [], ◌∷◌, None, Some, drop, OnOk, OnErr, IfOk, IsErr, is_ok, Contains, ◌⊎◌, if◌then◌else◌, unwrap_or};
+ghost use Rattle.std.specs.Prelude.{◌≡◌, ◌+◌, ◌++◌, [], ◌∷◌, None, Some, drop, OnOk, OnErr, IfOk, IsErr, is_ok};
+ghost use Rattle.std.specs.Prelude.{Contains, ◌⊎◌, if◌then◌else◌, unwrap_or};
 ghost use Rattle.std.specs.Result.{result_ok};
 ghost use Rattle.std.specs.Io.{ReadsAtMost};
 ghost use Rattle.std.specs.Io.KnownBytes.{ReadConsumes};
@@ -93,14 +94,18 @@ impl Shelf for MemShelf {
         ensures opened { (mem_shelf_state self.new).opened ≡ (if is_ok result then Some name.now else None) }
         ensures asked { (mem_shelf_state self.new).asked ≡ (mem_shelf_state self.old).asked ++ name.now ∷ [] }
         ensures taken { OnOk result ((mem_shelf_state self.new).taken ≡ 0) }
-        ensures content { OnOk result (Begins (mem_shelf_state self.old).held name.now (mem_shelf_state self.new).left) }
+        ensures content { OnOk result
+            (Begins (mem_shelf_state self.old).held name.now (mem_shelf_state self.new).left) }
         ensures cause { HasCause (mem_shelf_state self.old).faults (mem_shelf_state self.new).faults result }
-        ensures missed { (mem_shelf_state self.new).missed ≡ (if is_ok result then (mem_shelf_state self.old).missed else Some name.now) }
+        ensures missed { (mem_shelf_state self.new).missed
+            ≡ (if is_ok result then (mem_shelf_state self.old).missed else Some name.now) }
 
         ensures fails { Contains (listed self.old) (next_call self.old) → IsErr result }
         ensures absent { mem_files self.old name.now ≡ None → IsErr result }
-        ensures only { OnErr result (Contains (listed self.old) (next_call self.old) ⊎ (mem_files self.old name.now ≡ None)) }
-        ensures faults { (mem_shelf_state self.new).faults ≡ (if is_ok result then (mem_shelf_state self.old).faults else one_more (mem_shelf_state self.old).faults) }
+        ensures only { OnErr result
+            (Contains (listed self.old) (next_call self.old) ⊎ (mem_files self.old name.now ≡ None)) }
+        ensures faults { (mem_shelf_state self.new).faults
+            ≡ (if is_ok result then (mem_shelf_state self.old).faults else one_more (mem_shelf_state self.old).faults) }
         ensures counts { call_count self.new ≡ next_call self.old }
         ensures listed { listed self.new ≡ listed self.old }
     {
@@ -126,14 +131,17 @@ impl Shelf for MemShelf {
         ensures asked { (mem_shelf_state self.new).asked ≡ (mem_shelf_state self.old).asked }
         ensures bound { ReadsAtMost result buf.new }
         ensures bytes { ReadConsumes (mem_shelf_state self.old).left (mem_shelf_state self.new).left result buf.new }
-        ensures taken { (mem_shelf_state self.new).taken ≡ (mem_shelf_state self.old).taken + unwrap_or (result_ok result) 0 }
+        ensures taken { (mem_shelf_state self.new).taken
+            ≡ (mem_shelf_state self.old).taken + unwrap_or (result_ok result) 0 }
         ensures rest { IfOk result (λ n. drop n buf.new ≡ drop n buf.old) }
         ensures cause { HasCause (mem_shelf_state self.old).faults (mem_shelf_state self.new).faults result }
-        ensures missed { (mem_shelf_state self.new).missed ≡ (if is_ok result then (mem_shelf_state self.old).missed else (mem_shelf_state self.old).opened) }
+        ensures missed { (mem_shelf_state self.new).missed
+            ≡ (if is_ok result then (mem_shelf_state self.old).missed else (mem_shelf_state self.old).opened) }
 
         ensures fails { Contains (listed self.old) (next_call self.old) → IsErr result }
         ensures only { OnErr result (Contains (listed self.old) (next_call self.old)) }
-        ensures faults { (mem_shelf_state self.new).faults ≡ (if is_ok result then (mem_shelf_state self.old).faults else one_more (mem_shelf_state self.old).faults) }
+        ensures faults { (mem_shelf_state self.new).faults
+            ≡ (if is_ok result then (mem_shelf_state self.old).faults else one_more (mem_shelf_state self.old).faults) }
         ensures counts { call_count self.new ≡ next_call self.old }
         ensures listed { listed self.new ≡ listed self.old }
     {

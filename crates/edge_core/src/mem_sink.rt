@@ -1,5 +1,6 @@
 //! A sink in memory, whose writes fail when they are told to.
-ghost use Rattle.std.specs.Prelude.{◌≡◌, ◌<◌, ◌++◌, [], ◌∷◌, length, OnOk, OnErr, IfOk, IsErr, is_ok, Contains, ◌⊎◌, if◌then◌else◌};
+ghost use Rattle.std.specs.Prelude.{◌≡◌, ◌<◌, ◌++◌, [], ◌∷◌, length, OnOk, OnErr, IfOk, IsErr, is_ok, Contains, ◌⊎◌};
+ghost use Rattle.std.specs.Prelude.{if◌then◌else◌};
 ghost use Rattle.std.specs.Io.KnownBytes.{WriteAppends};
 ghost use Rattle.edge_core.specs.Outside.{HasCause, one_more};
 
@@ -63,12 +64,15 @@ impl Sink for MemSink {
     // The clauses of the trait, and that it fails exactly when it is told to or memory runs out.
     fn write(&mut self, piece: &[u8]) -> Result<usize, Failed>
         ensures whole { IfOk result (λ n. n ≡ length piece.now) }
-        ensures bytes { WriteAppends (mem_sink_state self.old).written (mem_sink_state self.new).written result piece.now }
+        ensures bytes { WriteAppends (mem_sink_state self.old).written (mem_sink_state self.new).written result
+            piece.now }
         ensures cause { HasCause (mem_sink_state self.old).faults (mem_sink_state self.new).faults result }
 
         ensures fails { Contains (listed_writes self.old) (next_write self.old) → IsErr result }
-        ensures only { OnErr result (Contains (listed_writes self.old) (next_write self.old) ⊎ (spare_room self.old < length piece.now)) }
-        ensures faults { (mem_sink_state self.new).faults ≡ (if is_ok result then (mem_sink_state self.old).faults else one_more (mem_sink_state self.old).faults) }
+        ensures only { OnErr result (Contains (listed_writes self.old) (next_write self.old)
+            ⊎ (spare_room self.old < length piece.now)) }
+        ensures faults { (mem_sink_state self.new).faults
+            ≡ (if is_ok result then (mem_sink_state self.old).faults else one_more (mem_sink_state self.old).faults) }
         ensures counts { write_count self.new ≡ next_write self.old }
         ensures listed { listed_writes self.new ≡ listed_writes self.old }
     {

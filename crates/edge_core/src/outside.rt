@@ -1,5 +1,6 @@
 //! What the outside means: by a shelf's state and a sink's state, which only clauses read.
-ghost use Rattle.std.specs.Prelude.{◌≡◌, ◌+◌, ◌^◌, ◌<◌, ◌++◌, [], ◌∷◌, None, Some, length, drop, IsTrue, IsSome, IfOk, OnOk, is_ok, if◌then◌else◌, unwrap_or};
+ghost use Rattle.std.specs.Prelude.{◌≡◌, ◌+◌, ◌^◌, ◌<◌, ◌++◌, [], ◌∷◌, None, Some, length, drop, IsTrue, IsSome, IfOk};
+ghost use Rattle.std.specs.Prelude.{OnOk, is_ok, if◌then◌else◌, unwrap_or};
 ghost use Rattle.std.specs.Result.{result_ok};
 ghost use Rattle.std.specs.Io.{ReadsAtMost, WritesAtMost};
 ghost use Rattle.std.specs.Io.KnownBytes.{ReadConsumes, WriteAppends};
@@ -42,7 +43,8 @@ pub trait Shelf {
         ensures rest { IfOk result (λ n. drop n buf.new ≡ drop n buf.old) }
 
         ensures cause { HasCause (state self.old).faults (state self.new).faults result }
-        ensures missed { (state self.new).missed ≡ (if is_ok result then (state self.old).missed else (state self.old).opened) };
+        ensures missed { (state self.new).missed
+            ≡ (if is_ok result then (state self.old).missed else (state self.old).opened) };
 }
 
 /// A place that bytes go out to.

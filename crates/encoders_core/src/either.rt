@@ -16,11 +16,11 @@ use separation_core::encode_separation;
 use std::alloc::Global;
 use table_core::Examples;
 
-/// Returns the formula of examples of a problem in an encoding. If no values make every clause true, no model restores the
-/// examples.
+/// Returns the formula of examples of a problem in an encoding. If no values make every clause true, no model restores
+/// the examples.
 ///
-/// The error is `Wide` if the encoding is by coalitions and there are more than 12 criteria, else `TooLarge`, with the number
-/// of literals, if the formula would have more than 33,554,432.
+/// The error is `Wide` if the encoding is by coalitions and there are more than 12 criteria, else `TooLarge`, with the
+/// number of literals, if the formula would have more than 33,554,432.
 pub fn encode(
     alloc: Global,
     encoding: Encoding,

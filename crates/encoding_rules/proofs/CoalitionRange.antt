@@ -1,4 +1,4 @@
--- The variables of the coalition formula are those that it counts, and few where it has few literals.
+-- The variables of the coalition formula are those that it counts, and few if it has few literals.
 use Rattle.std.proofs.Common.{◌≡◌, ℕ, zero, suc, ◌+◌, ◌-◌, ◌*◌, ◌/◌, ◌^◌, ◌<◌, ◌≤◌, Bool, true, false, cond, List, [], ◌∷◌, ◌++◌, length, refl, sym, subst, arith}
 use Rattle.std.specs.List.{All}
 use Rattle.std.proofs.Math.Nat.{mul_assoc, mul-le-mul_left, pow-suc}

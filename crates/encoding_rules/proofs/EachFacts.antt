@@ -45,7 +45,7 @@ module _ {A : Type 0} where
         | inr after ↦ (let same : n ≡ i = omega (arith, lt, after) in subst (λ j. length (each f j) + length (f j) ≤ length (each f n ++ f n)) same (omega (arith, e)))
       ]
 
-  -- item j of the list of i stands after the lists before it
+  -- item j of the list of i comes after the lists before it
   pub each_at : (f : ℕ → List A) (n i j : ℕ) (d : A) → i < n → j < length (f i) → get_or (each f n) (length (each f i) + j) d ≡ get_or (f i) j d
   each_at f zero i j d lt below = absurd (omega (arith, lt))
   each_at f (suc n) i j d lt below = elim (cases_lt i n) [
@@ -54,7 +54,7 @@ module _ {A : Type 0} where
         subst (λ m. get_or (each f n ++ f n) (length (each f m) + j) d ≡ get_or (f m) j d) same (get_or-append-add (each f n) (f n) j d))
   ]
 
-  -- the same where the number of items before it is known
+  -- the same if the number of items before it is known
   pub each_at_place : (f : ℕ → List A) (n i j p : ℕ) (d : A) → i < n → j < length (f i) → length (each f i) ≡ p → get_or (each f n) (p + j) d ≡ get_or (f i) j d
   each_at_place f n i j p d lt below before = subst (λ q. get_or (each f n) (q + j) d ≡ get_or (f i) j d) before (each_at f n i j d lt below)
 
@@ -133,7 +133,7 @@ map_cond : {X Y : Type 0} (h : X → Y) (x : X) (y : Y) (b : Bool) → (b ≡ tr
 map_cond h x y true e = ap (λ z. z ∷ []) (e refl)
 map_cond h x y false e = refl
 
--- a list made place by place, where a test passes, is that of the filtered elements
+-- a list made place by place, if a test passes, is that of the filtered elements
 pub each_filter : {X Y : Type 0} (p : X → Bool) (h : X → Y) (g : ℕ → Y) (xs : List X) (d : X) → ((k : ℕ) → k < length xs → p (get_or xs k d) ≡ true → g k ≡ h (get_or xs k d))
     → (n : ℕ) → n ≤ length xs → each (λ k. cond (p (get_or xs k d)) (g k ∷ []) []) n ≡ map h (filter p (take n xs))
 each_filter p h g xs d same zero le = refl

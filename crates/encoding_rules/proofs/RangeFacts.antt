@@ -1,4 +1,4 @@
--- The variables of the formula are those that it counts, and few where it has few literals.
+-- The variables of the formula are those that it counts, and few if it has few literals.
 use Rattle.std.proofs.Common.{◌≡◌, ℕ, ◌+◌, ◌-◌, ◌*◌, ◌/◌, ◌<◌, ◌≤◌, List, [], ◌∷◌, ◌++◌, length, sym, ap, ◌∙◌, subst, arith}
 use Rattle.std.specs.List.{All, Contains}
 use Rattle.std.proofs.Math.Nat.{mul_comm, mul-add, mul_assoc, mul-le-mul_left}

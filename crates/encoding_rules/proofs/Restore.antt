@@ -64,7 +64,7 @@ module _ (d : Direction) where
       let here : k + 1 + j ≡ k + (j + 1) = omega arith in
       subst (λ m. f m ≡ true) (omega arith) (h (j + 1) (omega (arith, lt)) (subst (λ m. f m ≡ true) here e))
 
-  -- the first grade that passes accepts exactly those that pass, where better ones than one that passes do too
+  -- the first grade that passes accepts exactly those that pass, if better ones than one that passes do too
   first_accepts : (f : ℕ → Bool) (k : ℕ) (ys : List ℤ) (r : ℕ) → AllPairs Below ys → StaysFrom f k (length ys) → r < length ys → accepts d (first_passing f k ys) (get_or ys r (pos 0)) ≡ f (k + r)
   first_accepts f k [] r rises h lt = absurd (omega (arith, lt))
   first_accepts f k (y ∷ ys) zero rises h lt =
@@ -80,7 +80,7 @@ module _ (d : Direction) where
         | inr e ↦ ap (λ t. accepts d t z) (passing_by f k y ys false e) ∙ first_accepts f (k + 1) ys r (pairs_tail y ys rises) (stays_later f k (length ys) h) (omega (arith, lt)) ∙ ap f (omega arith)
       ]
 
-  -- where less passes, the first is no worse
+  -- if less passes, the first is no worse
   step_above : (g : ℕ → Bool) (k : ℕ) (x : ℤ) (ys : List ℤ) → All (Below x) ys → is_step d (Some x) (first_passing g k ys) ≡ true
   step_above g k x [] all = refl
   step_above g k x (y ∷ ys) all = elim (cases_Bool (g k)) [
@@ -113,7 +113,7 @@ module _ (d : Direction) where
     | inr o ↦ Contains-later y t ys (first_among f (k + 1) ys t (sym (passing_by f k y ys false o) ∙ e))
   ]
 
-  -- thresholds are ordered where each is no better than the next
+  -- thresholds are ordered if each is no better than the next
   ordered_after : (t : Option ℤ) (ts : List (Option ℤ)) → ((b : ℕ) → b < length ts → is_step d (get_or (t ∷ ts) b None) (get_or ts b None) ≡ true) → are_ordered_after d t ts ≡ true
   ordered_after t [] h = refl
   ordered_after t (u ∷ us) h = and_from (is_step d t u) (are_ordered_after d u us) (h 0 (omega arith)) (ordered_after u us (λ b lt. h (suc b) (omega (arith, lt))))

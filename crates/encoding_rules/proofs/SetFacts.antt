@@ -57,7 +57,7 @@ mask_has n set lt = same_from_bits_below n (mask (has set) n) set (mask_lt (has 
 pub mask_same : (f g : ℕ → Bool) (n : ℕ) → ((i : ℕ) → i < n → f i ≡ g i) → mask f n ≡ mask g n
 mask_same f g n h = ap mask_of (listed_same f g n h)
 
--- one set is inside another where it has no other members
+-- one set is inside another if it has no other members
 pub mask_inside : (f g : ℕ → Bool) (n : ℕ) → ((i : ℕ) → i < n → f i ≡ true → g i ≡ true) → is_inside (mask f n) (mask g n) ≡ true
 mask_inside f g n h =
     let size = length-listed f n in

@@ -1,5 +1,5 @@
--- The coalition encoding: an unknown for each set of criteria, true if the set is sufficient (Belahcène and others 2018).
--- A set is a mask below 2^n for n criteria.
+-- The coalition encoding: an unknown for each set of criteria, true if the set is sufficient (Belahcène and others
+-- 2018). A set is a mask below 2^n for n criteria.
 use Rattle.std.specs.Prelude.{ℕ, ◌+◌, ◌-◌, ◌*◌, ◌/◌, ◌%◌, ◌^◌, ◌==◌, Bool, List, [], ◌∷◌, ◌++◌, length, if◌then◌else◌}
 use Rattle.literals_core.specs.Formula.{plus, minus}
 use Rattle.encoding_rules.specs.Each.{each, listed}
@@ -63,7 +63,8 @@ coalition_variables task = accepted_count task + set_count task
 
 abbrev pub coalition_clauses : Task → List (List ℕ)
 coalition_clauses task =
-    better_clauses task ++ (lower_clauses task ++ (larger_clauses task ++ (bad_set_clauses task ++ good_set_clauses task)))
+    better_clauses task ++ (lower_clauses task
+    ++ (larger_clauses task ++ (bad_set_clauses task ++ good_set_clauses task)))
 
 -- the numbers of its clauses and of its literals
 abbrev pub coalition_clause_count : Task → ℕ

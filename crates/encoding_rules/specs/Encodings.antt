@@ -4,8 +4,10 @@ use Rattle.literals_core.specs.Formula.{Cnf}
 use Rattle.literals_core.specs.declared.encoding.Encoding.{Encoding}
 use Rattle.literals_core.specs.declared.encoding.Encoding.TheVariants.{Separation, Coalitions}
 use Rattle.encoding_rules.specs.Task.{Task, criteria}
-use Rattle.encoding_rules.specs.Separation.{separation_variables, separation_clauses, separation_clause_count, separation_literal_count}
-use Rattle.encoding_rules.specs.Coalitions.{coalition_variables, coalition_clauses, coalition_clause_count, coalition_literal_count}
+use Rattle.encoding_rules.specs.Separation.{separation_variables, separation_clauses, separation_clause_count}
+use Rattle.encoding_rules.specs.Separation.{separation_literal_count}
+use Rattle.encoding_rules.specs.Coalitions.{coalition_variables, coalition_clauses, coalition_clause_count}
+use Rattle.encoding_rules.specs.Coalitions.{coalition_literal_count}
 
 -- the number of variables of a task's formula
 abbrev pub variables_of : Encoding → Task → ℕ

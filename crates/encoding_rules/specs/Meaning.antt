@@ -19,4 +19,5 @@ accepts_at task values i b e = values (accepted task i b (rank task i e))
 -- what a good example has at its boundary, a bad one has not wholly at the boundary above its category
 abbrev pub SetsApart : Task → (ℕ → Bool) → Type 0
 SetsApart task values = (g e : Example) → Contains (goods task) g → Contains (bads task) e
-    → (i : ℕ) × (i < criteria task) × (accepts_at task values i (g.category - 1) g ≡ true) × (accepts_at task values i e.category e ≡ false)
+    → (i : ℕ) × (i < criteria task) × (accepts_at task values i (g.category - 1) g ≡ true)
+    × (accepts_at task values i e.category e ≡ false)

@@ -1,5 +1,6 @@
 -- Ranks: the distinct grades of the examples on a criterion, in rising preference.
-use Rattle.std.specs.Prelude.{ℕ, ◌≡◌, ◌↔◌, ℤ, pos, false, List, [], ◌∷◌, length, map, Contains, AllPairs, slice_index_or, if◌then◌else◌}
+use Rattle.std.specs.Prelude.{ℕ, ◌≡◌, ◌↔◌, ℤ, pos, false, List, [], ◌∷◌, length, map, Contains, AllPairs}
+use Rattle.std.specs.Prelude.{slice_index_or, if◌then◌else◌}
 use Rattle.std.specs.List.{position_or_len}
 use Rattle.sorting_rule.specs.Preference.{Direction, is_as_good}
 use Rattle.sorting_rule.specs.Examples.{Example}

@@ -25,4 +25,5 @@ rebuilt_profiles task values = listed (rebuilt_profile task values) (criteria ta
 
 -- the model of the values, with these roots at each boundary
 abbrev pub rebuilt : Task → (ℕ → Bool) → List ℕ → Model
-rebuilt task values rs = record { profiles = rebuilt_profiles task values; coalitions = replicate (boundaries task) (roots rs) }
+rebuilt task values rs =
+    record { profiles = rebuilt_profiles task values; coalitions = replicate (boundaries task) (roots rs) }

@@ -1,5 +1,5 @@
--- The separation encoding: some criterion separates each good example from each bad one, so no unknown is needed for a set of
--- criteria (after Belahcène and others 2018).
+-- The separation encoding: some criterion separates each good example from each bad one, so no unknown is needed for a
+-- set of criteria (after Belahcène and others 2018).
 use Rattle.std.specs.Prelude.{ℕ, ◌+◌, ◌-◌, ◌*◌, List, [], ◌∷◌, ◌++◌, length}
 use Rattle.encoding_rules.specs.Each.{each, listed, total}
 use Rattle.encoding_rules.specs.Task.{Task, criteria, boundaries, goods, bads, good_at, bad_at}

@@ -15,7 +15,9 @@ abbrev pub lower_clause : Task → ℕ → ℕ → ℕ → List ℕ
 lower_clause task i b k = minus (accepted task i (b + 1) k) ∷ plus (accepted task i b k) ∷ []
 
 unfoldable pub better_clauses : Task → List (List ℕ)
-better_clauses task = each (λ i. each (λ b. listed (better_clause task i b) (count_at task i - 1)) (boundaries task)) (criteria task)
+better_clauses task =
+    each (λ i. each (λ b. listed (better_clause task i b) (count_at task i - 1)) (boundaries task)) (criteria task)
 
 unfoldable pub lower_clauses : Task → List (List ℕ)
-lower_clauses task = each (λ i. each (λ b. listed (lower_clause task i b) (count_at task i)) (boundaries task - 1)) (criteria task)
+lower_clauses task =
+    each (λ i. each (λ b. listed (lower_clause task i b) (count_at task i)) (boundaries task - 1)) (criteria task)

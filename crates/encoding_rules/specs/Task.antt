@@ -1,5 +1,5 @@
--- A learning task (Belahcène and others 2018). A good example reaches the boundary of its category; a bad one fails the boundary
--- above its category. An example of a category in between is both.
+-- A learning task (Belahcène and others 2018). A good example reaches the boundary of its category; a bad one fails the
+-- boundary above its category. An example of a category in between is both.
 use Rattle.std.specs.Prelude.{ℕ, ◌+◌, ◌-◌, ◌<◌, ◌≡◌, nat_le, nat_lt, List, [], length, All, filter, slice_index_or}
 use Rattle.sorting_rule.specs.Preference.{Direction, rising}
 use Rattle.sorting_rule.specs.Examples.{Example}

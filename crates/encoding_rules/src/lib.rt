@@ -51,9 +51,11 @@ pub fn unsatisfiable_formula_means_no_model()
 
 /// A law, whatever the encoding: values that make every clause true are nested and set the examples apart.
 pub fn values_of_formula_set_apart()
-    ensures nested { (encoding : Encoding) (task : Task) (values : ℕ → Bool) → Satisfies values (clauses_of encoding task)
+    ensures nested { (encoding : Encoding) (task : Task) (values : ℕ → Bool)
+        → Satisfies values (clauses_of encoding task)
         → IsNested task values }
-    ensures apart { (encoding : Encoding) (task : Task) (values : ℕ → Bool) → Satisfies values (clauses_of encoding task)
+    ensures apart { (encoding : Encoding) (task : Task) (values : ℕ → Bool)
+        → Satisfies values (clauses_of encoding task)
         → SetsApart task values }
 {}
 

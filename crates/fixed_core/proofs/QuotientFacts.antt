@@ -11,7 +11,7 @@ use Rattle.std.proofs.Math.Arith.{mod-mul}
 use Rattle.std.proofs.lemmas.Nat.{pow-add}
 use Rattle.fixed_core.proofs.PowerFacts.{pow_least}
 
--- the digits and what they are multiplied by, where the division leaves nothing
+-- the digits and what they are multiplied by, if the division leaves nothing
 pub scaled-split : (head zeros raised lowered k : ℕ) → zeros + raised ≡ k + lowered → head * 10 ^ zeros * 10 ^ raised ≡ head * 10 ^ k * 10 ^ lowered
 scaled-split head zeros raised lowered k e =
     mul_assoc head (10 ^ zeros) (10 ^ raised) ∙ ap (λ p. head * p) (sym (pow-add 10 zeros raised) ∙ ap (λ i. 10 ^ i) e ∙ pow-add 10 k lowered) ∙ sym (mul_assoc head (10 ^ k) (10 ^ lowered))

@@ -1,5 +1,6 @@
 -- What a number text says, computed.
-use Rattle.std.specs.Prelude.{ℕ, ◌+◌, List, [], ◌∷◌, take, drop, length, Bool, false, not, ◌==◌, ◌&&◌, ◌||◌, nat_lt, Option, Some, None, option_map, unwrap_or, position, if◌then◌else◌}
+use Rattle.std.specs.Prelude.{ℕ, ◌+◌, List, [], ◌∷◌, take, drop, length, Bool, false, not, ◌==◌, ◌&&◌, ◌||◌, nat_lt}
+use Rattle.std.specs.Prelude.{Option, Some, None, option_map, unwrap_or, position, if◌then◌else◌}
 use Rattle.std.specs.List.{list_all}
 use Rattle.std.specs.Char.{is_ascii_digit}
 
@@ -36,10 +37,12 @@ after_fraction (c ∷ rest) = if c == 46 then after_digits rest else c ∷ rest
 abbrev pub exponent_of : List ℕ → Option (Bool × List ℕ)
 exponent_of [] = Some (false, [])
 exponent_of (c ∷ rest) =
-    if ((c == 101) || (c == 69)) && nat_lt 0 (length (after_sign rest)) && list_all is_ascii_digit (after_sign rest) then Some (is_minus rest, after_sign rest)
+    if ((c == 101) || (c == 69)) && nat_lt 0 (length (after_sign rest))
+    && list_all is_ascii_digit (after_sign rest) then Some (is_minus rest, after_sign rest)
     else None
 
--- what a number text says: a sign, the digits before and after the point, whether the exponent is negative, and its digits
+-- what a number text says: a sign, the digits before and after the point, whether the exponent is negative, and its
+-- digits
 pub record Numeral : Type 0 where
   pub negative : Bool
   pub whole : List ℕ
@@ -51,7 +54,14 @@ pub record Numeral : Type 0 where
 unfoldable pub numeral_of_body : Bool → List ℕ → Option Numeral
 numeral_of_body negative body =
     if length (front_digits body) + length (fraction_digits (after_digits body)) == 0 then None
-    else option_map (λ e. record { negative = negative; whole = front_digits body; fraction = fraction_digits (after_digits body); lowers = e.0; exponent = e.1 }) (exponent_of (after_fraction (after_digits body)))
+    else option_map
+    (λ e. record {
+      negative = negative;
+      whole = front_digits body;
+      fraction = fraction_digits (after_digits body);
+      lowers = e.0;
+      exponent = e.1;
+    }) (exponent_of (after_fraction (after_digits body)))
 
 -- a text as a numeral, if it is one
 unfoldable pub numeral_of : List ℕ → Option Numeral

@@ -18,4 +18,5 @@ abbrev pub ReadsAs : List ℕ → Result ℤ FixedFault → Type 0
 ReadsAs text (Ok units) = (n : Numeral) × (Spells text n × HasUnits n units × (unsigned_abs units ≤ 10 ^ 36))
 ReadsAs text (Err Shape) = (n : Numeral) → ¬ Spells text n
 ReadsAs text (Err Digits) = (n : Numeral) × (Spells text n × ((units : ℤ) → ¬ HasUnits n units))
-ReadsAs text (Err Range) = (n : Numeral) × ((units : ℤ) × (Spells text n × HasUnits n units × (10 ^ 36 < unsigned_abs units)))
+ReadsAs text (Err Range) =
+    (n : Numeral) × ((units : ℤ) × (Spells text n × HasUnits n units × (10 ^ 36 < unsigned_abs units)))

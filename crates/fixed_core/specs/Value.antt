@@ -1,5 +1,6 @@
 -- The value of a number text, in units of 10^-18.
-use Rattle.std.specs.Prelude.{ℕ, ◌+◌, ◌*◌, ◌/◌, ◌%◌, ◌^◌, List, ◌++◌, length, Bool, ◌==◌, nat_le, Option, Some, None, Result, Ok, Err, ℤ, pos, neg_ℤ, if◌then◌else◌}
+use Rattle.std.specs.Prelude.{ℕ, ◌+◌, ◌*◌, ◌/◌, ◌%◌, ◌^◌, List, ◌++◌, length, Bool, ◌==◌, nat_le, Option, Some, None}
+use Rattle.std.specs.Prelude.{Result, Ok, Err, ℤ, pos, neg_ℤ, if◌then◌else◌}
 use Rattle.std.specs.Str.Parse.{digits_value}
 use Rattle.fixed_core.specs.declared.fault.FixedFault.{FixedFault}
 use Rattle.fixed_core.specs.declared.fault.FixedFault.TheVariants.{Shape, Digits, Range}
@@ -23,7 +24,8 @@ signed negative n = if negative then neg_ℤ (pos n) else pos n
 -- the quotient, if the division leaves nothing and the quotient is at most 10^36
 unfoldable pub fixed_quotient : Bool → ℕ → ℕ → Result ℤ FixedFault
 fixed_quotient negative scaled divisor =
-    if scaled % divisor == 0 then (if nat_le (scaled / divisor) (10 ^ 36) then Ok (signed negative (scaled / divisor)) else Err Range)
+    if scaled % divisor == 0 then (if nat_le (scaled / divisor) (10 ^ 36) then Ok (signed negative (scaled / divisor))
+    else Err Range)
     else Err Digits
 
 -- the units of 10^-18 of a numeral, or why it has none

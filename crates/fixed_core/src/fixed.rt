@@ -1,6 +1,7 @@
 //! The type of exact decimals, with their order and their sum.
 
-ghost use Rattle.std.specs.Prelude.{◌≡◌, ◌^◌, ◌<◌, ◌≤◌, ◌↔◌, ◌+ℤ◌, ◌≤ℤ◌, IsTrue, IfSome, None, int_lt, unsigned_abs, pos, FitsSigned};
+ghost use Rattle.std.specs.Prelude.{◌≡◌, ◌^◌, ◌<◌, ◌≤◌, ◌↔◌, ◌+ℤ◌, ◌≤ℤ◌, IsTrue, IfSome, None, int_lt, unsigned_abs};
+ghost use Rattle.std.specs.Prelude.{pos, FitsSigned};
 ghost use Rattle.std.specs.Int.{w128};
 ghost use Rattle.fixed_core.specs.Value.{signed};
 

@@ -4,7 +4,8 @@ ghost use Rattle.std.specs.Prelude.{◌≡◌, ◌≤◌, ◌%◌, ◌^◌, ◌+
 ghost use Rattle.std.specs.List.{list_all};
 ghost use Rattle.std.specs.Char.{is_ascii_digit};
 ghost use Rattle.std.specs.Str.Parse.{AllDigits, digits_value, digits_value_after};
-ghost use Rattle.fixed_core.specs.Numeral.{digits_len, front_digits, after_digits, is_minus, after_sign, fraction_digits, after_fraction, exponent_of, numeral_of};
+ghost use Rattle.fixed_core.specs.Numeral.{digits_len, front_digits, after_digits, is_minus, after_sign};
+ghost use Rattle.fixed_core.specs.Numeral.{fraction_digits, after_fraction, exponent_of, numeral_of};
 ghost use Rattle.fixed_core.specs.Parts.{numeral_in};
 
 // The sign, the digits before and after the point, whether the exponent is negative, and its digits.

@@ -97,7 +97,8 @@ fn fixed_from(
     requires scale { scale < 2 ^ 64 }
     requires exponent { exponent ≤ MOST_EXPONENT }
     ensures { (n e : ℕ) → IsMantissa n m → exponent ≡ min e MOST_EXPONENT
-        → result ≡ fixed_quotient negative (n * 10 ^ (18 + (if lowers then 0 else e))) (10 ^ (scale + (if lowers then e else 0))) }
+        → result ≡ fixed_quotient negative (n * 10 ^ (18 + (if lowers then 0 else e)))
+        (10 ^ (scale + (if lowers then e else 0))) }
 {
     if !m.large && m.value == 0 {
         return Ok(with_sign(false, 0));

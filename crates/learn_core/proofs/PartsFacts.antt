@@ -17,9 +17,10 @@ use Rattle.model_core.specs.declared.model.Coalitions.TheVariants.{Roots}
 use Rattle.model_core.specs.declared.model.Profile.{Profile}
 use Rattle.model_core.specs.Model.{boundaries_of}
 use Rattle.search_core.specs.Values.{value_at}
+use Rattle.accepted_core.proofs.NumbersFacts.{criteria_is}
 use Rattle.learn_core.specs.Numbers.{first_in, threshold_in, thresholds_in, own_in}
 use Rattle.learn_core.proofs.ModelFacts.{thresholds_of, roots_below, roots_few, AreParts}
-use Rattle.learn_core.proofs.RebuildFacts.{criteria_is, firsts_many, rebuilt_from}
+use Rattle.learn_core.proofs.RebuildFacts.{firsts_many, rebuilt_from}
 
 module _ (problem : ProblemValue) (examples : List Example) (ranks : RanksValue) (are : AreRanks (task_of problem examples) ranks) (is : IsProblem problem)
     (m n : ℕ) (is_m : m ≡ length problem.categories) (is_n : n ≡ length problem.criteria) (values : List Bool)

@@ -25,6 +25,7 @@ use Rattle.encoding_rules.proofs.Laws.{learns}
 use Rattle.ranks_core.specs.Ranks.{task_of, RanksValue, AreRanks}
 use Rattle.search_core.specs.Values.{value_at}
 use Rattle.accepted_core.specs.Sizes.{count_in}
+use Rattle.accepted_core.proofs.NumbersFacts.{criteria_is, grades_many, places_many, count_is, place_is}
 use Rattle.learn_core.specs.Numbers.{first_in, IsFirst, threshold_in, flag_in, own_in, RowsFit}
 use Rattle.learn_core.specs.Satisfies.{SatisfiesOne}
 use Rattle.learn_core.proofs.ModelFacts.{profile_of, model_of}
@@ -34,43 +35,22 @@ module _ (problem : ProblemValue) (examples : List Example) (ranks : RanksValue)
   abbrev task : Task
   task = task_of problem examples
 
-  pub criteria_is : criteria task ≡ length problem.criteria
-  unfolding criteria
-  criteria_is = length-map problem.criteria (λ (c : Criterion). direction_of c.scale)
-
-  pub boundaries_is : boundaries task ≡ length problem.categories - 1
-  unfolding boundaries
-  boundaries_is = refl
-
-  pub grades_many : length ranks.grades ≡ criteria task
-  grades_many = ap length are.grades_are ∙ length-listed (ranked task) (criteria task)
-
-  pub places_many : length ranks.places ≡ criteria task
-  places_many = ap length are.places_are ∙ length-listed (λ k. map (rank task k) task.examples) (criteria task)
-
   grades_is : (i : ℕ) → i < criteria task → get_or ranks.grades i [] ≡ ranked task i
   grades_is i lt = ap (λ xs. get_or xs i []) are.grades_are ∙ listed_at (ranked task) (criteria task) i [] lt
-
-  count_is : (i : ℕ) → i < criteria task → count_in ranks.grades i ≡ count_at task i
-  unfolding count_at
-  count_is i lt = ap length (grades_is i lt)
-
-  place_is : (i : ℕ) → i < criteria task → get_or ranks.places i [] ≡ map (rank task i) examples
-  place_is i lt = ap (λ xs. get_or xs i []) are.places_are ∙ listed_at (λ k. map (rank task k) task.examples) (criteria task) i [] lt
 
   -- the ranks fit the first unknowns
   pub rows_fit : IsProblem problem → (firsts : List ℕ) → length firsts ≡ criteria task → All IsFirst firsts → (row : ℕ) → row < length examples → RowsFit firsts ranks row
   rows_fit is firsts many small row lr =
       let few = is.few_criteria in
-      let n = criteria_is in
-      let g = grades_many in
-      let p = places_many in
+      let n = criteria_is problem examples ranks are in
+      let g = grades_many problem examples ranks are in
+      let p = places_many problem examples ranks are in
       record {
         few = omega (arith, few, n, many);
         starts = small;
         grades = omega (arith, g, many);
         places = omega (arith, p, many);
-        rows = λ i lt. (let e : length (get_or ranks.places i []) ≡ length examples = ap length (place_is i (omega (arith, lt, many))) ∙ length-map examples (rank task i) in omega (arith, e, lr));
+        rows = λ i lt. (let e : length (get_or ranks.places i []) ≡ length examples = ap length (place_is problem examples ranks are i (omega (arith, lt, many))) ∙ length-map examples (rank task i) in omega (arith, e, lr));
       }
 
   pub categories_few : IsProblem problem → IsTask task → All (λ e. e.category ≤ 9) examples
@@ -88,13 +68,13 @@ module _ (problem : ProblemValue) (examples : List Example) (ranks : RanksValue)
     unfolding counted
     first_is i lt =
         ap (λ xs. get_or xs i 0) is_firsts ∙ listed_at (first_in (boundaries task) ranks.grades) (criteria task) i 0 lt
-        ∙ ap (λ n. 1 + boundaries task * n) (total_same (count_in ranks.grades) (count_at task) i (λ k below. count_is k (omega (arith, below, lt))))
+        ∙ ap (λ n. 1 + boundaries task * n) (total_same (count_in ranks.grades) (count_at task) i (λ k below. count_is problem examples ranks are k (omega (arith, below, lt))))
 
     threshold_is : (i b : ℕ) → i < criteria task → threshold_in values ranks.grades (get_or firsts i 0) i b ≡ rebuilt_threshold task v i b
     unfolding accepted
     threshold_is i b lt =
         ap (λ m. first_passing (λ k. v (m + b * count_in ranks.grades i + k)) 0 (get_or ranks.grades i [])) (first_is i lt)
-        ∙ ap (λ c. first_passing (λ k. v (1 + boundaries task * counted task i + b * c + k)) 0 (get_or ranks.grades i [])) (count_is i lt)
+        ∙ ap (λ c. first_passing (λ k. v (1 + boundaries task * counted task i + b * c + k)) 0 (get_or ranks.grades i [])) (count_is problem examples ranks are i lt)
         ∙ ap (first_passing (λ k. v (accepted task i b k)) 0) (grades_is i lt)
 
     row_is : (rows : List (List (Option ℤ))) → rows ≡ listed (λ i. listed (threshold_in values ranks.grades (get_or firsts i 0) i) (boundaries task)) (length firsts)
@@ -117,8 +97,8 @@ module _ (problem : ProblemValue) (examples : List Example) (ranks : RanksValue)
       unfolding accepted
       flag_is place row i lr li =
           let f = first_is i li in
-          let m : place * count_in ranks.grades i ≡ place * count_at task i = ap (λ n. place * n) (count_is i li) in
-          let r : get_or (get_or ranks.places i []) row 0 ≡ rank task i (example_at examples row) = ap (λ xs. get_or xs row 0) (place_is i li) ∙ get_or-map (rank task i) examples row no_example 0 lr in
+          let m : place * count_in ranks.grades i ≡ place * count_at task i = ap (λ n. place * n) (count_is problem examples ranks are i li) in
+          let r : get_or (get_or ranks.places i []) row 0 ≡ rank task i (example_at examples row) = ap (λ xs. get_or xs row 0) (place_is problem examples ranks are i li) ∙ get_or-map (rank task i) examples row no_example 0 lr in
           let at : get_or firsts i 0 + place * count_in ranks.grades i + get_or (get_or ranks.places i []) row 0 ≡ accepted task i place (rank task i (example_at examples row)) = omega (arith, f, m, r) in
           ap v at
 
@@ -154,14 +134,14 @@ module _ (problem : ProblemValue) (examples : List Example) (ranks : RanksValue)
   unfolding boundaries
   rebuilt_from m n is_m is_n firsts v1 v2 sets v3 rs is_firsts s1 s2 values fits nested apart rows is_rows is_sets s3 minimal =
       let all : firsts ≡ listed (first_in (length problem.categories - 1) ranks.grades) (criteria task) =
-      is_firsts ∙ ap (λ k. listed (first_in (k - 1) ranks.grades) n) is_m ∙ ap (listed (first_in (length problem.categories - 1) ranks.grades)) (is_n ∙ sym criteria_is) in
+      is_firsts ∙ ap (λ k. listed (first_in (k - 1) ranks.grades) n) is_m ∙ ap (listed (first_in (length problem.categories - 1) ranks.grades)) (is_n ∙ sym (criteria_is problem examples ranks are)) in
       let rows_are : rows ≡ listed (λ i. listed (threshold_in values ranks.grades (get_or firsts i 0) i) (length problem.categories - 1)) (length firsts) =
       is_rows ∙ ap (λ w. listed (λ i. listed (threshold_in values ranks.grades (get_or w i 0) i) (m - 1)) (length w)) s1
       ∙ ap (λ k. listed (λ i. listed (threshold_in values ranks.grades (get_or firsts i 0) i) (k - 1)) (length firsts)) is_m in
       rebuilt_learns firsts all values fits nested apart rows rows_are sets rs (is_sets ∙ ap (λ w. each (own_in values w ranks examples) (length examples)) s2) (subst (λ xs. AreMinimal xs rs) s3 minimal)
 
   pub firsts_many : (m n : ℕ) → n ≡ length problem.criteria → (firsts v : List ℕ) → firsts ≡ listed (first_in (m - 1) ranks.grades) n → v ≡ firsts → length v ≡ criteria task
-  firsts_many m n is_n firsts v e s = ap length (s ∙ e) ∙ length-listed (first_in (m - 1) ranks.grades) n ∙ is_n ∙ sym criteria_is
+  firsts_many m n is_n firsts v e s = ap length (s ∙ e) ∙ length-listed (first_in (m - 1) ranks.grades) n ∙ is_n ∙ sym (criteria_is problem examples ranks are)
 
 -- values of the formula of some encoding
 pub one_nested : (task : Task) (values : ℕ → Bool) → SatisfiesOne task values → IsNested task values

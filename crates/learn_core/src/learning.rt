@@ -48,13 +48,13 @@ fn accept(alloc: Global, formula: &Formula, log: Log) -> Result<Accepted, AllocE
 
 /// Looks for a model that restores the examples, with at most `most` lemmas of search.
 ///
-/// `Found` has a model that belongs to the problem, is in rebuilt form, and restores the examples. `Refuted` has a refutation
-/// of the formula of the encoding, which the checker accepted: no ordered thresholds with any upward-closed family of
-/// coalitions restore the examples. `Limit` has a good and fresh log of exactly `most` lemmas; `most` is then below three to
-/// the power of the number of variables.
+/// `Found` has a model that belongs to the problem, is in rebuilt form, and restores the examples. `Refuted` has a
+/// refutation of the formula of the encoding, which the checker accepted: no ordered thresholds with any upward-closed
+/// family of coalitions restore the examples. `Limit` has a good and fresh log of exactly `most` lemmas; `most` is then
+/// below three to the power of the number of variables.
 ///
-/// The error is `Wide` if the encoding is by coalitions and there are more than 12 criteria, else `TooLarge`, with the number
-/// of literals, if the formula would have more than 33,554,432.
+/// The error is `Wide` if the encoding is by coalitions and there are more than 12 criteria, else `TooLarge`, with the
+/// number of literals, if the formula would have more than 33,554,432.
 pub fn learn(
     alloc: Global,
     problem: &Problem,
@@ -67,11 +67,13 @@ pub fn learn(
     requires limit { most ≤ 1000000 }
     ensures found { IfOk result (IfFound (λ m. Learns examples.now (rule_of problem.now m))) }
     ensures belongs { IfOk result (IfFound (Belongs problem.now)) }
-    ensures refuted { IfOk result (IfRefuted (IsShortRefutation (formula_of encoding (task_of problem.now examples.now)) most)) }
+    ensures refuted { IfOk result
+        (IfRefuted (IsShortRefutation (formula_of encoding (task_of problem.now examples.now)) most)) }
     ensures no_model { let task = task_of problem.now examples.now in
         IfOk result (IfRefuted (λ _. HasNoModel task.directions task.categories task.examples)) }
     ensures at_limit { IfOk result (IfLimit (IsAtLimit (formula_of encoding (task_of problem.now examples.now)) most)) }
-    ensures undecided { IfOk result (IfLimit (λ _. ¬ PropagationEnds (formula_of encoding (task_of problem.now examples.now)))) }
+    ensures undecided { IfOk result
+        (IfLimit (λ _. ¬ PropagationEnds (formula_of encoding (task_of problem.now examples.now)))) }
     ensures small { OnOk result (HasFormula encoding (task_of problem.now examples.now)) }
     ensures fault { IfErr result (LearnFaultOf encoding (task_of problem.now examples.now)) }
 {

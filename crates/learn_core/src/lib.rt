@@ -1,4 +1,5 @@
-//! Learning: a model that restores examples, from values that satisfy a formula, or a refutation that the checker accepted.
+//! Learning: a model that restores examples, from values that satisfy a formula, or a refutation that the checker
+//! accepted.
 #![tactic(auto)]
 
 mod learning;

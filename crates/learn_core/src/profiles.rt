@@ -83,7 +83,8 @@ pub fn profiles_of(
     requires firsts { All IsFirst firsts.now }
     requires few { length firsts.now ≤ 16 }
     requires ranks { length firsts.now ≤ length ranks.now.grades }
-    ensures { IfOk result (λ profiles. map (λ p. p.thresholds) profiles.items ≡ listed (thresholds_in values.now ranks.now.grades firsts.now boundaries) (length firsts.now)) }
+    ensures { IfOk result (λ profiles. map (λ p. p.thresholds) profiles.items
+        ≡ listed (thresholds_in values.now ranks.now.grades firsts.now boundaries) (length firsts.now)) }
 {
     let mut profiles = Vec::new(alloc);
     for i in 0..firsts.len() {

@@ -54,12 +54,12 @@ fn nested_model(
     Ok(Model::new(problem, profiles, coalitions))
 }
 
-/// Returns the model of values that make every clause of the formula of one of the encodings true. The model belongs to the
-/// problem, is in rebuilt form, and restores the examples.
+/// Returns the model of values that make every clause of the formula of one of the encodings true. The model belongs to
+/// the problem, is in rebuilt form, and restores the examples.
 ///
-/// The threshold of a criterion at a boundary is the least grade of an example whose unknown is true, and null if there is
-/// none. Each boundary has the same roots: the minimal ones among the accepted sets of the examples of category 1 or more,
-/// each at the boundary of its category.
+/// The threshold of a criterion at a boundary is the least grade of an example whose unknown is true, and null if there
+/// is none. Each boundary has the same roots: the minimal ones among the accepted sets of the examples of category 1 or
+/// more, each at the boundary of its category.
 pub fn rebuild(
     alloc: Global,
     problem: &Problem,

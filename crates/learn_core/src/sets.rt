@@ -1,5 +1,6 @@
 //! The accepted sets of examples, each at the boundary of its category.
-ghost use Rattle.std.specs.Prelude.{◌≡◌, ◌≤◌, ◌<◌, ◌+◌, ◌*◌, ◌^◌, ℕ, [], length, All, IfOk, slice_index_or, if◌then◌else◌};
+ghost use Rattle.std.specs.Prelude.{◌≡◌, ◌≤◌, ◌<◌, ◌+◌, ◌*◌, ◌^◌, ℕ, [], length, All, IfOk, slice_index_or};
+ghost use Rattle.std.specs.Prelude.{if◌then◌else◌};
 ghost use Rattle.sorting_rule.specs.Coalition.{mask_of};
 ghost use Rattle.encoding_rules.specs.Each.{each, listed};
 ghost use Rattle.learn_core.specs.Numbers.{IsFirst, flag_in, own_in, RowsFit};
@@ -43,7 +44,8 @@ pub fn own_sets(
 ) -> Result<Vec<u32>, AllocError>
     requires fit { (row : ℕ) → row < length examples.now → RowsFit firsts.now ranks.now row }
     requires categories { All (λ e. e.category ≤ 9) examples.now }
-    ensures sets { IfOk result (λ sets. sets.items ≡ each (own_in values.now firsts.now ranks.now examples.now) (length examples.now)) }
+    ensures sets { IfOk result (λ sets. sets.items
+        ≡ each (own_in values.now firsts.now ranks.now examples.now) (length examples.now)) }
     ensures below { IfOk result (λ sets. All (λ set. set < 2 ^ length firsts.now) sets.items) }
 {
     let mut sets = Vec::new(alloc);

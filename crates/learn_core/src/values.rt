@@ -2,7 +2,7 @@
 ghost use Rattle.std.specs.Prelude.{◌≡◌, ◌≤◌};
 ghost use Rattle.search_core.specs.Values.{value_at};
 
-/// The value of a variable, where the first value is that of variable 1; false where there is none.
+/// The value of a variable: the first value is that of variable 1. False if there is none.
 pub fn value_at(values: &[bool], variable: usize) -> bool
     requires { 1 ≤ variable }
     ensures { result ≡ value_at values.now variable }

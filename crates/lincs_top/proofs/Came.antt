@@ -79,14 +79,14 @@ first_of_names names passed left count e c = ap (λ l. take count l) e ∙ ap (�
 next_is_one : (names passed left : List (List ℕ)) (name : List ℕ) → names ≡ passed ++ name ∷ left → Contains names name
 next_is_one names passed left name e = subst (λ l. Contains l name) (sym e) (Contains-append_right passed (name ∷ left) name (0, search rules, refl))
 
--- where a step's value is given, the rest of the course goes on with it
+-- if a step's value is given, the rest of the course goes on with it
 goes_on : {A : Type 0} (step : FileStep A) (name : List ℕ) (next : A → ℕ → World → Outcome → Type 0) (opened : ℕ) (files : Files) (u : Option ℕ) (e : Outcome) (value : A)
     → is_at u opened ≡ false → given step files name ≡ Ok value → next value (opened + 1) (World_of files u) e → Reads step name next opened (World_of files u) e
 goes_on step name next opened files u e value other gives is =
     let same : given_in step (World_of files u) opened name ≡ Ok value = rw other gives in
     record { goes = subst (λ r. Goes (opened + 1) r next (World_of files u) e) (sym same) is }
 
--- where it stops, the course ends there
+-- if it stops, the course ends there
 ends_there : {A : Type 0} (step : FileStep A) (name : List ℕ) (next : A → ℕ → World → Outcome → Type 0) (opened : ℕ) (world : World) (end : End)
     → given_in step world opened name ≡ Err end → Reads step name next opened world (silent (opened + 1) end)
 ends_there step name next opened world end stopped = record { goes = subst (λ r. Goes (opened + 1) r next world (silent (opened + 1) end)) (sym stopped) refl }

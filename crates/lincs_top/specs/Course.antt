@@ -1,5 +1,6 @@
 -- How a command goes over files: its course.
-use Rattle.std.specs.Prelude.{◌≡◌, ◌⊎◌, ◌+◌, ◌*◌, ℕ, Bool, false, List, length, Option, None, Some, Result, Ok, Err, ◌==◌, if◌then◌else◌}
+use Rattle.std.specs.Prelude.{◌≡◌, ◌⊎◌, ◌+◌, ◌*◌, ℕ, Bool, false, List, length, Option, None, Some, Result, Ok, Err}
+use Rattle.std.specs.Prelude.{◌==◌, if◌then◌else◌}
 use Rattle.literals_core.specs.declared.encoding.Encoding.{Encoding}
 use Rattle.literals_core.specs.declared.encoding.Encoding.TheVariants.{Separation}
 use Rattle.chain_core.specs.Text.{dimacs_text}
@@ -22,7 +23,9 @@ use Rattle.draw_core.specs.DrawnTable.{drawn_table}
 use Rattle.problem_text_core.specs.ProblemText.{problem_text}
 use Rattle.model_text_core.specs.ModelText.{model_text}
 use Rattle.lincs_top.specs.Output.{accuracy_text, end_of_rows, end_of_text, text_or_none}
-use Rattle.line_core.specs.Command.{Command, classifying, rating, learning, encoding, checking, describing_problem, describing_model, describing_table, generating_problem, generating_model, generating_table, rehearsing}
+use Rattle.line_core.specs.Command.{Command, classifying, rating, learning, encoding, checking, describing_problem}
+use Rattle.line_core.specs.Command.{describing_model, describing_table, generating_problem, generating_model}
+use Rattle.line_core.specs.Command.{generating_table, rehearsing}
 use Rattle.lincs_top.specs.declared.stop.Size.{Size}
 use Rattle.lincs_top.specs.declared.stop.Verdict.{Verdict}
 use Rattle.lincs_top.specs.declared.stop.Verdict.TheVariants.{Done}
@@ -60,7 +63,8 @@ Goes opened (Ok value) next world outcome = next value opened world outcome
 Goes opened (Err end) next world outcome = outcome ≡ silent opened end
 
 -- the next file is opened, after so many, and read by a step: the course goes on with its value, or ends there
-pub record Reads {A : Type 0} (step : FileStep A) (name : List ℕ) (next : A → ℕ → World → Outcome → Type 0) (opened : ℕ) (world : World) (outcome : Outcome) : Type 0 where
+pub record Reads {A : Type 0} (step : FileStep A) (name : List ℕ) (next : A → ℕ → World → Outcome → Type 0) (opened : ℕ)
+    (world : World) (outcome : Outcome) : Type 0 where
   pub goes : Goes (opened + 1) (given_in step world opened name) next world outcome
 
 -- the course ends so, and this text is the output
@@ -69,26 +73,31 @@ pub record Writes (end : End) (text : List ℕ) (opened : ℕ) (world : World) (
 
 -- the formula of a task in an encoding is small enough, and the course goes on; or it is too large, and the course ends
 -- there with no output
-pub record Sizes (how : Encoding) (task : Task) (next : ℕ → World → Outcome → Type 0) (opened : ℕ) (world : World) (outcome : Outcome) : Type 0 where
-  pub goes : (HasFormula how task × next opened world outcome) ⊎ ((size : Size) × IsOver how task size × (outcome ≡ silent opened (over size)))
+pub record Sizes (how : Encoding) (task : Task) (next : ℕ → World → Outcome → Type 0) (opened : ℕ) (world : World)
+    (outcome : Outcome) : Type 0 where
+  pub goes : (HasFormula how task × next opened world outcome)
+      ⊎ ((size : Size) × IsOver how task size × (outcome ≡ silent opened (over size)))
 
 -- a log is judged over the formula of a task: the verdict is Done exactly if it is a refutation, and then no model
 -- restores the examples
-pub record Judges (how : Encoding) (task : Task) (log : List Lemma) (opened : ℕ) (world : World) (outcome : Outcome) : Type 0 where
+pub record Judges (how : Encoding) (task : Task) (log : List Lemma) (opened : ℕ) (world : World)
+    (outcome : Outcome) : Type 0 where
   pub verdict : Verdict
   pub judged : Judged (formula_of how task) log verdict
   pub means : verdict ≡ Done → HasNoModel task.directions task.categories task.examples
   pub is : outcome ≡ record { end = gave verdict; output = judged_text verdict; opened = opened }
 
 -- examples are learned from, with so many lemmas at most: the output is what the verdict says
-pub record Decides (problem : ProblemValue) (examples : List Example) (how : Encoding) (most : ℕ) (opened : ℕ) (world : World) (outcome : Outcome) : Type 0 where
+pub record Decides (problem : ProblemValue) (examples : List Example) (how : Encoding) (most : ℕ) (opened : ℕ)
+    (world : World) (outcome : Outcome) : Type 0 where
   pub verdict : Verdict
   pub text : List ℕ
   pub learned : Learned problem examples how most verdict text
   pub is : outcome ≡ record { end = gave verdict; output = text; opened = opened }
 
 -- a model is learned from drawn examples: the output is what the verdict says
-pub record Rehearses (problem : ProblemValue) (examples : List Example) (opened : ℕ) (world : World) (outcome : Outcome) : Type 0 where
+pub record Rehearses (problem : ProblemValue) (examples : List Example) (opened : ℕ) (world : World)
+    (outcome : Outcome) : Type 0 where
   pub verdict : Verdict
   pub text : List ℕ
   pub rehearsed : Rehearsed problem examples verdict text
@@ -100,7 +109,8 @@ course (classifying problem_name model_name table_name) =
     Reads problem_in problem_name (λ problem.
     Reads (model_in problem) model_name (λ model.
     Reads (table_in problem) table_name (λ table.
-    Writes (end_of_rows table_name (rows_left problem table).1) (classified_text problem (rule_of problem model) table))))
+    Writes (end_of_rows table_name (rows_left problem table).1)
+    (classified_text problem (rule_of problem model) table))))
 course (rating problem_name model_name table_name) =
     Reads problem_in problem_name (λ problem.
     Reads (model_in problem) model_name (λ model.
@@ -141,7 +151,8 @@ course (generating_model problem_name seed) =
 course (generating_table problem_name model_name rows seed) =
     Reads problem_in problem_name (λ problem.
     Reads (model_in problem) model_name (λ model.
-    Writes (gave Done) (drawn_table problem (rule_of problem model) rows (words_of (seeded seed) (rows * length problem.criteria)))))
+    Writes (gave Done) (drawn_table problem (rule_of problem model) rows
+    (words_of (seeded seed) (rows * length problem.criteria)))))
 course (rehearsing criteria categories rows seed) =
     Sizes Separation (rehearsed_task criteria categories rows seed) (
     Rehearses (rehearsed_problem criteria categories seed) (rehearsed_examples criteria categories rows seed))

@@ -25,7 +25,8 @@ ConcludesAs streaming end text old new (Err NoMemory) =
 ConcludesAs streaming end text old new (Err (Unread name)) = ⊥
 ConcludesAs streaming end text old new (Err (Usage fault)) = ⊥
 
-pub record Concludes (streaming : Bool) (end : End) (text : List ℕ) (old new : SinkState) (result : Result Verdict Stop) : Type 0 where
+pub record Concludes (streaming : Bool) (end : End) (text : List ℕ) (old new : SinkState)
+    (result : Result Verdict Stop) : Type 0 where
   pub later : old.faults ≤ new.faults
   pub gives : ConcludesAs streaming end text old new result
 

@@ -57,7 +57,9 @@ log_in name bytes = refusing name refusal.Log (log_of bytes)
 -- the bytes of a file, unless it is too long
 abbrev pub bytes_in : Files → List ℕ → Result (List ℕ) End
 bytes_in files name =
-    if nat_lt most_bytes (length (bytes_of files name)) then Err (refused name refusal.TooLong) else Ok (bytes_of files name)
+    if nat_lt most_bytes (length (bytes_of files name))
+    then Err (refused name refusal.TooLong)
+    else Ok (bytes_of files name)
 
 -- what a step gives if the file can be read
 abbrev pub given : {A : Type 0} → FileStep A → Files → List ℕ → Result A End

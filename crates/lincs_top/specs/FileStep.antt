@@ -45,7 +45,8 @@ pub record OpensOne (old new : ShelfState) (name : List ℕ) : Type 0 where
   pub asked : new.asked ≡ old.asked ++ name ∷ []
 
 -- one file was opened, and the step's result is what it gives
-pub record TakesStep {A : Type 0} (old new : ShelfState) (step : FileStep A) (name : List ℕ) (result : Result A Stop) : Type 0 where
+pub record TakesStep {A : Type 0} (old new : ShelfState) (step : FileStep A) (name : List ℕ)
+    (result : Result A Stop) : Type 0 where
   pub opens : OpensOne old new name
   pub gives : StepGives old new (given step) name result
 

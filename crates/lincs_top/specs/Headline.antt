@@ -20,18 +20,20 @@ use Rattle.lincs_top.specs.Learned.{IsModelText, IsRefutationText, IsLimitText}
 
 -- the files hold a problem, a model and a table, no row of which is refused, and the table with the rule's categories
 -- was written
-pub record SortsFiles (files : Files) (problem_name model_name table_name : List ℕ) (out out' : SinkState) : Type 0 where
-  pub problem : ProblemValue
-  pub model : ModelValue
-  pub table : TableState
-  pub problem_file : given problem_in files problem_name ≡ Ok problem
-  pub model_file : given (model_in problem) files model_name ≡ Ok model
-  pub table_file : given (table_in problem) files table_name ≡ Ok table
-  pub all_rows : (rows_left problem table).1 ≡ None
-  pub wrote : Appends out.written out'.written (classified_text problem (rule_of problem model) table)
+pub record SortsFiles (files : Files) (problem_name model_name table_name : List ℕ) (out out' : SinkState) : Type 0
+  where
+    pub problem : ProblemValue
+    pub model : ModelValue
+    pub table : TableState
+    pub problem_file : given problem_in files problem_name ≡ Ok problem
+    pub model_file : given (model_in problem) files model_name ≡ Ok model
+    pub table_file : given (table_in problem) files table_name ≡ Ok table
+    pub all_rows : (rows_left problem table).1 ≡ None
+    pub wrote : Appends out.written out'.written (classified_text problem (rule_of problem model) table)
 
 -- the files hold a problem and examples, and a text was written of which this is said
-pub record LearnsFrom (files : Files) (problem_name table_name : List ℕ) (out out' : SinkState) (Says : ProblemValue → List Example → List ℕ → Type 0) : Type 0 where
+pub record LearnsFrom (files : Files) (problem_name table_name : List ℕ) (out out' : SinkState)
+    (Says : ProblemValue → List Example → List ℕ → Type 0) : Type 0 where
   pub problem : ProblemValue
   pub examples : List Example
   pub text : List ℕ

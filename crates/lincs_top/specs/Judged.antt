@@ -32,7 +32,8 @@ rejection fault = Ok (rejected fault)
 abbrev pub Judged : Cnf → List Lemma → Verdict → Type 0
 Judged formula log Done = IsRefutation formula log
 Judged formula log No = ⊥
-Judged formula log (Rejected code line) = (fault : CheckFault) × IsRefused formula log fault × (rejected fault ≡ Rejected code line)
+Judged formula log (Rejected code line) =
+    (fault : CheckFault) × IsRefused formula log fault × (rejected fault ≡ Rejected code line)
 Judged formula log (Limit most) = ⊥
 
 abbrev pub judged_text : Verdict → List ℕ
@@ -40,7 +41,8 @@ judged_text Done = codes "accepted\n"
 judged_text verdict = []
 
 -- a log was judged, and the output went out as far as it could
-pub record TellsJudged (formula : Cnf) (log : List Lemma) (old new : SinkState) (result : Result Verdict Stop) : Type 0 where
-  pub verdict : Verdict
-  pub judged : Judged formula log verdict
-  pub concludes : Concludes false (gave verdict) (judged_text verdict) old new result
+pub record TellsJudged (formula : Cnf) (log : List Lemma) (old new : SinkState) (result : Result Verdict Stop) : Type 0
+  where
+    pub verdict : Verdict
+    pub judged : Judged formula log verdict
+    pub concludes : Concludes false (gave verdict) (judged_text verdict) old new result

@@ -18,7 +18,8 @@ use Rattle.lincs_top.specs.declared.stop.Size.TheVariants as size
 use Rattle.lincs_top.specs.declared.stop.Verdict.TheVariants as verdict
 use Rattle.report_core.specs.Prefix.{AppendsPrefix}
 use Rattle.lincs_top.specs.End.{gave, unread, refused, over}
-use Rattle.lincs_top.specs.FaultNumbers.{yaml_number, problem_number, model_number, table_number, grade_number, line_number}
+use Rattle.lincs_top.specs.FaultNumbers.{yaml_number, problem_number, model_number, table_number, grade_number}
+use Rattle.lincs_top.specs.FaultNumbers.{line_number}
 use Rattle.lincs_top.specs.Report.{Report, at_end, usage, unwritten, no_memory}
 
 -- a line about a file
@@ -37,7 +38,8 @@ abbrev pub row_text : RowFault → List ℕ
 row_text row.NoMemory = codes "row \n"
 row_text (row.Length number) = concat (codes "row " ∷ decimal number ∷ codes ": 1\n" ∷ [])
 row_text (row.Grade number criterion fault) =
-    concat (codes "row " ∷ decimal number ∷ codes ": 2 at " ∷ decimal criterion ∷ codes ": " ∷ decimal (grade_number fault) ∷ codes "\n" ∷ [])
+    concat (codes "row " ∷ decimal number ∷ codes ": 2 at " ∷ decimal criterion ∷ codes ": "
+    ∷ decimal (grade_number fault) ∷ codes "\n" ∷ [])
 row_text (row.Category number) = concat (codes "row " ∷ decimal number ∷ codes ": 3\n" ∷ [])
 
 abbrev pub log_text : LogFault → List ℕ

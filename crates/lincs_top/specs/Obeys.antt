@@ -1,12 +1,15 @@
 -- What a command's function does, measured by the command's course.
-use Rattle.std.specs.Prelude.{◌≡◌, ◌⊎◌, ◌≤◌, ◌++◌, ℕ, true, List, [], ◌∷◌, Option, Some, take, Result, Contains, All, IsTrue, ⊤}
+use Rattle.std.specs.Prelude.{◌≡◌, ◌⊎◌, ◌≤◌, ◌++◌, ℕ, true, List, [], ◌∷◌, Option, Some, take, Result, Contains, All}
+use Rattle.std.specs.Prelude.{IsTrue, ⊤}
 use Rattle.std.specs.Io.KnownBytes.{Appends}
 use Rattle.chain_core.specs.declared.fault.CheckFault.{CheckFault}
 use Rattle.edge_core.specs.Outside.{Files, ShelfState, SinkState, KeepsHeld, Rose, AppendsPart}
 use Rattle.lincs_top.specs.declared.stop.Verdict.{Verdict}
 use Rattle.lincs_top.specs.declared.stop.Verdict.TheVariants.{Done, No, Limit}
 use Rattle.lincs_top.specs.declared.stop.Stop.{Stop}
-use Rattle.line_core.specs.Command.{Command, classifying, rating, learning, encoding, checking, describing_problem, describing_model, describing_table, generating_problem, generating_model, generating_table, rehearsing}
+use Rattle.line_core.specs.Command.{Command, classifying, rating, learning, encoding, checking, describing_problem}
+use Rattle.line_core.specs.Command.{describing_model, describing_table, generating_problem, generating_model}
+use Rattle.line_core.specs.Command.{generating_table, rehearsing}
 use Rattle.lincs_top.specs.Command.{names_of, streams, makes_formula}
 use Rattle.lincs_top.specs.Course.{World, Ends, readable, unreadable_at}
 use Rattle.report_core.specs.Prefix.{AppendsPrefix}
@@ -26,7 +29,8 @@ CanGive (classifying problem model table) verdict = verdict ≡ Done
 CanGive (rating problem model table) verdict = verdict ≡ Done
 CanGive (learning problem table how most) verdict = (verdict ≡ Done) ⊎ (verdict ≡ No) ⊎ (verdict ≡ Limit most)
 CanGive (encoding problem table how) verdict = verdict ≡ Done
-CanGive (checking problem table refutation) verdict = (verdict ≡ Done) ⊎ ((fault : CheckFault) × (verdict ≡ rejected fault))
+CanGive (checking problem table refutation) verdict =
+    (verdict ≡ Done) ⊎ ((fault : CheckFault) × (verdict ≡ rejected fault))
 CanGive (describing_problem problem) verdict = verdict ≡ Done
 CanGive (describing_model problem model) verdict = verdict ≡ Done
 CanGive (describing_table problem table) verdict = verdict ≡ Done
@@ -63,7 +67,8 @@ SomeCourse command shelf shelf' world Is =
 -- over told files a course ends so, and its whole output went out
 abbrev pub EndsSo : Command → ShelfState → ShelfState → SinkState → SinkState → End → Type 0
 EndsSo command shelf shelf' out out' end =
-    SomeCourse command shelf shelf' readable (λ outcome. (outcome.end ≡ end) × Appends out.written out'.written outcome.output)
+    SomeCourse command shelf shelf' readable
+    (λ outcome. (outcome.end ≡ end) × Appends out.written out'.written outcome.output)
 
 -- a part of the output of a course went out, and something was still to go
 abbrev pub WritesPart : Command → ShelfState → ShelfState → SinkState → SinkState → Type 0
@@ -73,14 +78,16 @@ WritesPart command shelf shelf' out out' =
 -- out of memory, nothing was written; but if the command streams, a prefix of the output of a course
 abbrev pub LeavesOnNoMemory : Command → ShelfState → ShelfState → SinkState → SinkState → Type 0
 LeavesOnNoMemory command shelf shelf' out out' = (out' ≡ out)
-    ⊎ ((streams command ≡ true) × SomeCourse command shelf shelf' readable (λ outcome. AppendsPrefix out.written out'.written outcome.output))
+    ⊎ ((streams command ≡ true) × SomeCourse command shelf shelf' readable
+    (λ outcome. AppendsPrefix out.written out'.written outcome.output))
 
 -- a file was missed after the files before it passed their steps, and none was opened after it
 pub record Misses (command : Command) (shelf shelf' : ShelfState) (name : List ℕ) : Type 0 where
   pub rose : Rose shelf.faults shelf'.faults
   pub missed : shelf'.missed ≡ Some name
   pub place : ℕ
-  pub reached : SomeCourse command shelf shelf' (λ files. unreadable_at files place) (λ outcome. outcome.end ≡ unread name)
+  pub reached : SomeCourse command shelf shelf' (λ files. unreadable_at files place)
+      (λ outcome. outcome.end ≡ unread name)
 
 -- the causes of a command's end
 abbrev pub Causes : Command → ShelfState → ShelfState → SinkState → SinkState → Report → Type 0
@@ -107,6 +114,7 @@ pub record Keeps (command : Command) (shelf shelf' : ShelfState) (out out' : Sin
   pub asked : (count : ℕ) × OpensFirst command count shelf shelf'
 
 -- what a command's function does
-pub record Obeys (command : Command) (shelf shelf' : ShelfState) (out out' : SinkState) (result : Result Verdict Stop) : Type 0 where
+pub record Obeys (command : Command) (shelf shelf' : ShelfState) (out out' : SinkState)
+    (result : Result Verdict Stop) : Type 0 where
   pub keeps : Keeps command shelf shelf' out out'
   pub causes : Causes command shelf shelf' out out' (report_of result)

@@ -29,7 +29,8 @@ KeepsIn (Ok command) shelf shelf' out out' = Keeps command shelf shelf' out out'
 KeepsIn (Err fault) shelf shelf' out out' = (shelf' ≡ shelf) × (out' ≡ out)
 
 -- one report of the run: it has this status, its causes hold, and its line was written as far as it went
-pub record Reports (asked : Result Command LineFault) (shelf shelf' : ShelfState) (out out' err err' : SinkState) (status : Status) : Type 0 where
+pub record Reports (asked : Result Command LineFault) (shelf shelf' : ShelfState) (out out' err err' : SinkState)
+    (status : Status) : Type 0 where
   pub report : Report
   pub named : status ≡ status_of_report report
   pub causes : CausesIn asked shelf shelf' out out' report
@@ -37,12 +38,14 @@ pub record Reports (asked : Result Command LineFault) (shelf shelf' : ShelfState
   pub line : Says err err' (line_of_report report)
 
 -- what the function that reads the line and does its job does
-pub record DoesLine (asked : Result Command LineFault) (shelf shelf' : ShelfState) (out out' : SinkState) (result : Result Verdict Stop) : Type 0 where
+pub record DoesLine (asked : Result Command LineFault) (shelf shelf' : ShelfState) (out out' : SinkState)
+    (result : Result Verdict Stop) : Type 0 where
   pub causes : CausesIn asked shelf shelf' out out' (report_of result)
   pub keeps : KeepsIn asked shelf shelf' out out'
 
 -- the line is a job, over whose told files a course ends with this status: its whole output went out
-pub record CourseEnds (asked : Result Command LineFault) (shelf shelf' : ShelfState) (out out' : SinkState) (status : Status) : Type 0 where
+pub record CourseEnds (asked : Result Command LineFault) (shelf shelf' : ShelfState) (out out' : SinkState)
+    (status : Status) : Type 0 where
   pub command : Command
   pub is : asked ≡ Ok command
   pub end : End
@@ -51,33 +54,37 @@ pub record CourseEnds (asked : Result Command LineFault) (shelf shelf' : ShelfSt
   pub ended : EndsSo command shelf shelf' out out' end
 
 -- the line is a job of which a file could not be read
-pub record ReadFails (asked : Result Command LineFault) (shelf shelf' : ShelfState) (out out' : SinkState) : Type 0 where
-  pub command : Command
-  pub is : asked ≡ Ok command
-  pub name : List ℕ
-  pub named : CanEnd command (unread name)
-  pub misses : Misses command shelf shelf' name
-  pub silent : out' ≡ out
+pub record ReadFails (asked : Result Command LineFault) (shelf shelf' : ShelfState) (out out' : SinkState) : Type 0
+  where
+    pub command : Command
+    pub is : asked ≡ Ok command
+    pub name : List ℕ
+    pub named : CanEnd command (unread name)
+    pub misses : Misses command shelf shelf' name
+    pub silent : out' ≡ out
 
 -- the line is a job whose output could not be written
-pub record WriteFails (asked : Result Command LineFault) (shelf shelf' : ShelfState) (out out' : SinkState) : Type 0 where
-  pub command : Command
-  pub is : asked ≡ Ok command
-  pub rose : Rose out.faults out'.faults
-  pub writes : WritesPart command shelf shelf' out out'
+pub record WriteFails (asked : Result Command LineFault) (shelf shelf' : ShelfState) (out out' : SinkState) : Type 0
+  where
+    pub command : Command
+    pub is : asked ≡ Ok command
+    pub rose : Rose out.faults out'.faults
+    pub writes : WritesPart command shelf shelf' out out'
 
 -- the line is a job that ran out of memory
-pub record MemoryFails (asked : Result Command LineFault) (shelf shelf' : ShelfState) (out out' : SinkState) : Type 0 where
-  pub command : Command
-  pub is : asked ≡ Ok command
-  pub leaves : LeavesOnNoMemory command shelf shelf' out out'
+pub record MemoryFails (asked : Result Command LineFault) (shelf shelf' : ShelfState) (out out' : SinkState) : Type 0
+  where
+    pub command : Command
+    pub is : asked ≡ Ok command
+    pub leaves : LeavesOnNoMemory command shelf shelf' out out'
 
 -- the line is no job, and nothing is opened or written
-pub record LineFails (asked : Result Command LineFault) (shelf shelf' : ShelfState) (out out' : SinkState) : Type 0 where
-  pub fault : LineFault
-  pub is : asked ≡ Err fault
-  pub closed : shelf' ≡ shelf
-  pub silent : out' ≡ out
+pub record LineFails (asked : Result Command LineFault) (shelf shelf' : ShelfState) (out out' : SinkState) : Type 0
+  where
+    pub fault : LineFault
+    pub is : asked ≡ Err fault
+    pub closed : shelf' ≡ shelf
+    pub silent : out' ≡ out
 
 -- what each status tells
 abbrev pub StatusTells : Result Command LineFault → ShelfState → ShelfState → SinkState → SinkState → Status → Type 0

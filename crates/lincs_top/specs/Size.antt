@@ -11,7 +11,8 @@ use Rattle.lincs_top.specs.declared.stop.Stop.TheVariants.{Usage, Unread, Unwrit
 -- too many criteria, with their number, whatever the literals; else too many literals, with their number
 abbrev pub IsOver : Encoding → Task → Size → Type 0
 IsOver encoding task (Wide count) = IsWide encoding task × (count ≡ criteria task)
-IsOver encoding task (Large count) = IsNarrow encoding task × IsLarge encoding task × (count ≡ literal_count_of encoding task)
+IsOver encoding task (Large count) =
+    IsNarrow encoding task × IsLarge encoding task × (count ≡ literal_count_of encoding task)
 
 -- why no formula was made
 abbrev pub StopsOver : Encoding → Task → Stop → Type 0

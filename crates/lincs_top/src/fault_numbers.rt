@@ -1,6 +1,7 @@
 //! The numbers of the faults, as the error lines print them.
 ghost use Rattle.std.specs.Prelude.{◌≡◌};
-ghost use Rattle.lincs_top.specs.FaultNumbers.{plain, at, yaml_number, problem_number, model_number, table_number, grade_number, line_number};
+ghost use Rattle.lincs_top.specs.FaultNumbers.{plain, at, yaml_number, problem_number, model_number, table_number};
+ghost use Rattle.lincs_top.specs.FaultNumbers.{grade_number, line_number};
 
 use line_core::LineFault;
 use model_core::ModelFault;

@@ -5,7 +5,8 @@ ghost use Rattle.model_core.specs.Model.{Belongs};
 ghost use Rattle.table_core.specs.Examples.{BelongTo};
 ghost use Rattle.table_core.specs.Table.{IsTableOf};
 ghost use Rattle.lincs_top.specs.FileGives.{tree_in, problem_in, model_in, table_in, examples_in, log_in};
-ghost use Rattle.lincs_top.specs.Refusal.{yaml_refusal, problem_refusal, model_refusal, table_refusal, row_refusal, log_refusal};
+ghost use Rattle.lincs_top.specs.Refusal.{yaml_refusal, problem_refusal, model_refusal, table_refusal, row_refusal};
+ghost use Rattle.lincs_top.specs.Refusal.{log_refusal};
 ghost use Rattle.lincs_top.specs.FileStep.{TakesBytes, TakesStep};
 
 use crate::stop::{Refusal, Stop};

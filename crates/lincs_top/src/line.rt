@@ -2,7 +2,8 @@
 ghost use Rattle.std.specs.Prelude.{◌≡◌, [], Err};
 ghost use Rattle.std.specs.List.{flat_map};
 ghost use Rattle.edge_core.specs.Outside.{Sends};
-ghost use Rattle.lincs_top.specs.Line.{Says, part_text, about, numbered, refusal_text, row_text, log_text, usage_line, rejected_line, size_line, line_of_report};
+ghost use Rattle.lincs_top.specs.Line.{Says, part_text, about, numbered, refusal_text, row_text, log_text, usage_line};
+ghost use Rattle.lincs_top.specs.Line.{rejected_line, size_line, line_of_report};
 ghost use Rattle.lincs_top.specs.End.{gave};
 ghost use Rattle.lincs_top.specs.Report.{at_end};
 ghost use Rattle.lincs_top.specs.Stop.{report_of};

@@ -1,8 +1,9 @@
 //! The top call.
-ghost use Rattle.std.specs.Prelude.{◌≡◌, ◌≢◌, ◌↔◌, Err, IsErr};
+ghost use Rattle.std.specs.Prelude.{◌≡◌, ◌≢◌, ◌↔◌, true, Err, IsErr};
 ghost use Rattle.line_core.specs.Command.{HasItsRanges, command_of};
 ghost use Rattle.line_core.specs.Line.{line_gives};
 ghost use Rattle.line_core.specs.Texts.{texts};
+ghost use Rattle.lincs_top.specs.Command.{learns_or_encodes, generates_or_rehearses};
 ghost use Rattle.lincs_top.specs.Headline.{Sorts, FindsModel, WritesRefutation, WritesLemmas, Accepts};
 ghost use Rattle.lincs_top.specs.Obeys.{MayOpen, Obeys};
 ghost use Rattle.lincs_top.specs.Run.{MayOpenIn, DoesLine, Reports, StatusTells, Completes};
@@ -21,6 +22,76 @@ use crate::stop::{Stop, Verdict, status_of};
 use edge_core::{Shelf, Sink};
 use line_core::{Job, read_line};
 use std::alloc::Global;
+
+// Does a job that learns, encodes or checks a refutation.
+fn learn_or_encode<'a, S: Shelf, O: Sink>(
+    alloc: Global,
+    job: Job<'a>,
+    shelf: &mut S,
+    out: &mut O,
+) -> Result<Verdict, Stop<'a>>
+    requires kind { learns_or_encodes (command_of job) ≡ true }
+    requires names { MayOpen (S.state shelf.old) (command_of job) }
+    requires ranges { HasItsRanges (command_of job) }
+    ensures { Obeys (command_of job.entry)
+        (S.state shelf.old) (S.state shelf.new) (O.state out.old) (O.state out.new) result }
+{
+    match job {
+        Job::Learn {
+            problem,
+            table,
+            encoding,
+            most,
+        } => learn_model(alloc, problem, table, encoding, most, shelf, out),
+        Job::Encode {
+            problem,
+            table,
+            encoding,
+        } => write_formula(alloc, problem, table, encoding, shelf, out),
+        Job::CheckRefutation {
+            problem,
+            table,
+            refutation,
+        } => check_refutation(alloc, problem, table, refutation, shelf, out),
+        _ => unreachable!(),
+    }
+}
+
+// Does a job that generates or rehearses.
+fn generate_or_rehearse<'a, S: Shelf, O: Sink>(
+    alloc: Global,
+    job: Job<'a>,
+    shelf: &mut S,
+    out: &mut O,
+) -> Result<Verdict, Stop<'a>>
+    requires kind { generates_or_rehearses (command_of job) ≡ true }
+    requires names { MayOpen (S.state shelf.old) (command_of job) }
+    requires ranges { HasItsRanges (command_of job) }
+    ensures { Obeys (command_of job.entry)
+        (S.state shelf.old) (S.state shelf.new) (O.state out.old) (O.state out.new) result }
+{
+    match job {
+        Job::GenerateProblem {
+            criteria,
+            categories,
+            seed,
+        } => generate_problem(alloc, criteria, categories, seed, shelf, out),
+        Job::GenerateModel { problem, seed } => { generate_model(alloc, problem, seed, shelf, out) }
+        Job::GenerateTable {
+            problem,
+            model,
+            rows,
+            seed,
+        } => generate_table(alloc, problem, model, rows, seed, shelf, out),
+        Job::Rehearse {
+            criteria,
+            categories,
+            rows,
+            seed,
+        } => rehearse_once(alloc, criteria, categories, rows, seed, shelf, out),
+        _ => unreachable!(),
+    }
+}
 
 // Does a job.
 fn obey<'a, S: Shelf, O: Sink>(
@@ -45,43 +116,16 @@ fn obey<'a, S: Shelf, O: Sink>(
             model,
             table,
         } => rate(alloc, problem, model, table, shelf, out),
-        Job::Learn {
-            problem,
-            table,
-            encoding,
-            most,
-        } => learn_model(alloc, problem, table, encoding, most, shelf, out),
-        Job::Encode {
-            problem,
-            table,
-            encoding,
-        } => write_formula(alloc, problem, table, encoding, shelf, out),
-        Job::CheckRefutation {
-            problem,
-            table,
-            refutation,
-        } => check_refutation(alloc, problem, table, refutation, shelf, out),
         Job::DescribeProblem { problem } => tell_problem(alloc, problem, shelf, out),
         Job::DescribeModel { problem, model } => tell_model(alloc, problem, model, shelf, out),
         Job::DescribeTable { problem, table } => tell_table(alloc, problem, table, shelf, out),
-        Job::GenerateProblem {
-            criteria,
-            categories,
-            seed,
-        } => generate_problem(alloc, criteria, categories, seed, shelf, out),
-        Job::GenerateModel { problem, seed } => { generate_model(alloc, problem, seed, shelf, out) }
-        Job::GenerateTable {
-            problem,
-            model,
-            rows,
-            seed,
-        } => generate_table(alloc, problem, model, rows, seed, shelf, out),
-        Job::Rehearse {
-            criteria,
-            categories,
-            rows,
-            seed,
-        } => rehearse_once(alloc, criteria, categories, rows, seed, shelf, out),
+        Job::Learn { .. } | Job::Encode { .. } | Job::CheckRefutation { .. } => {
+            learn_or_encode(alloc, job, shelf, out)
+        }
+        Job::GenerateProblem { .. }
+        | Job::GenerateModel { .. }
+        | Job::GenerateTable { .. }
+        | Job::Rehearse { .. } => generate_or_rehearse(alloc, job, shelf, out),
     }
 }
 

@@ -178,7 +178,7 @@ not_short false true missing first second values made is = absurd cc
 not_short false false true first second values made is = absurd cc
 not_short false false false first second values made is = (refl, cc)
 
--- at each position of a line without a fault a word of its kind stands
+-- at each position of a line without a fault there is a word of its kind
 pub record Walked (kinds : List Kind) (progress : Progress) (words : List (List ℕ)) (values : OptionValues) : Type 0 where
   pub in_range : InRange progress.values → InRange values
   pub fits : (place : ℕ) (kind : Kind) → slice_get kinds (progress.filled + place) ≡ Some kind → fits kind (position words (is_some progress.awaited) place) ≡ true

@@ -1,5 +1,6 @@
 -- The job of the words after the program's name, or their first fault.
-use Rattle.std.specs.Prelude.{ℕ, Bool, true, false, ◌&&◌, List, [], ◌∷◌, Option, None, Some, Result, Ok, Err, unwrap_or, find, if◌then◌else◌}
+use Rattle.std.specs.Prelude.{ℕ, Bool, true, false, ◌&&◌, List, [], ◌∷◌, Option, None, Some, Result, Ok, Err, unwrap_or}
+use Rattle.std.specs.Prelude.{find, if◌then◌else◌}
 use Rattle.std.specs.List.{list_any}
 use Rattle.std.specs.Option.{is_some}
 use Rattle.std.specs.Str.{bytes_eq}
@@ -12,7 +13,9 @@ use Rattle.line_core.specs.declared.fault.LineFault.TheVariants.{NoCommand, Unkn
 use Rattle.line_core.specs.declared.number.Quantity.TheVariants.{Criteria, Categories, TableRows, RehearsalRows, Seed}
 use Rattle.line_core.specs.declared.options.OptionValues.{OptionValues}
 use Rattle.line_core.specs.declared.walk.Progress.{Progress}
-use Rattle.line_core.specs.Command.{Command, classifying, rating, learning, encoding, checking, describing_problem, describing_model, describing_table, generating_problem, generating_model, generating_table, rehearsing}
+use Rattle.line_core.specs.Command.{Command, classifying, rating, learning, encoding, checking, describing_problem}
+use Rattle.line_core.specs.Command.{describing_model, describing_table, generating_problem, generating_model}
+use Rattle.line_core.specs.Command.{generating_table, rehearsing}
 use Rattle.line_core.specs.Commands.{verbs, first_word, second_word, kinds_of, offers_of}
 use Rattle.line_core.specs.Position.{name_at, number_at}
 use Rattle.line_core.specs.Walk.{walk}
@@ -41,7 +44,8 @@ abbrev pub command_from : Verb → OptionValues → List (List ℕ) → Command
 command_from verb.Classify values words = classifying (name_at words 0) (name_at words 1) (name_at words 2)
 command_from verb.Accuracy values words = rating (name_at words 0) (name_at words 1) (name_at words 2)
 command_from verb.Learn values words =
-    learning (name_at words 0) (name_at words 1) (unwrap_or values.encoding Separation) (unwrap_or values.max_conflicts 100000)
+    learning (name_at words 0) (name_at words 1) (unwrap_or values.encoding Separation)
+    (unwrap_or values.max_conflicts 100000)
 command_from verb.Encode values words =
     encoding (name_at words 0) (name_at words 1) (unwrap_or values.encoding Separation)
 command_from verb.CheckRefutation values words = checking (name_at words 0) (name_at words 1) (name_at words 2)
@@ -54,7 +58,8 @@ command_from verb.GenerateModel values words = generating_model (name_at words 0
 command_from verb.GenerateTable values words =
     generating_table (name_at words 0) (name_at words 1) (number_at TableRows words 2) (unwrap_or values.random_seed 0)
 command_from verb.Rehearse values words =
-    rehearsing (number_at Criteria words 0) (number_at Categories words 1) (number_at RehearsalRows words 2) (number_at Seed words 3)
+    rehearsing (number_at Criteria words 0) (number_at Categories words 1) (number_at RehearsalRows words 2)
+    (number_at Seed words 3)
 
 -- no position is filled, and no option is given
 abbrev pub begun : Progress

@@ -30,7 +30,9 @@ is_number text = nat_lt 0 (length text) && list_all is_ascii_digit text
 -- the number that a text writes, if it is in this range
 abbrev pub number_in : ℕ → ℕ → List ℕ → Option ℕ
 number_in least most text =
-    if is_number text && (nat_le least (digits_value 10 text) && nat_le (digits_value 10 text) most) then Some (digits_value 10 text) else None
+    if is_number text && (nat_le least (digits_value 10 text) && nat_le (digits_value 10 text) most)
+    then Some (digits_value 10 text)
+    else None
 
 abbrev pub quantity_in : Quantity → List ℕ → Option ℕ
 quantity_in which text = number_in (least_of which) (most_of which) text

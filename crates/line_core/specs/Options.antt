@@ -1,5 +1,6 @@
 -- The options of the command line.
-use Rattle.std.specs.Prelude.{ℕ, Bool, true, false, not, ◌||◌, List, Option, None, Some, Result, length, codes, nat_eq, nat_lt, ◌==◌, if◌then◌else◌}
+use Rattle.std.specs.Prelude.{ℕ, Bool, true, false, not, ◌||◌, List, Option, None, Some, Result, length, codes, nat_eq}
+use Rattle.std.specs.Prelude.{nat_lt, ◌==◌, if◌then◌else◌}
 use Rattle.std.specs.List.{starts_with, before_first, after_first, position_or_len, list_all, list_any}
 use Rattle.std.specs.Option.{is_some, ok_or, option_map}
 use Rattle.std.specs.Str.{bytes_eq}

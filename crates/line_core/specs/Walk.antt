@@ -1,5 +1,6 @@
 -- The walk over the words of a command, from left to right: the first fault is the line's.
-use Rattle.std.specs.Prelude.{ℕ, ◌+◌, ◌-◌, not, ◌||◌, nat_lt, List, [], ◌∷◌, length, Option, None, Some, Result, Ok, Err, slice_get, if◌then◌else◌}
+use Rattle.std.specs.Prelude.{ℕ, ◌+◌, ◌-◌, not, ◌||◌, nat_lt, List, [], ◌∷◌, length, Option, None, Some, Result, Ok}
+use Rattle.std.specs.Prelude.{Err, slice_get, if◌then◌else◌}
 use Rattle.std.specs.Option.{is_some}
 use Rattle.lists_core.specs.Answers.{◌>>=◌}
 use Rattle.line_core.specs.declared.fault.LineFault.{LineFault}
@@ -9,13 +10,15 @@ use Rattle.line_core.specs.declared.options.OptionName.{OptionName}
 use Rattle.line_core.specs.declared.options.OptionValues.{OptionValues}
 use Rattle.line_core.specs.declared.position.Kind.{Kind}
 use Rattle.line_core.specs.declared.walk.Progress.{Progress}
-use Rattle.line_core.specs.Options.{is_option, name_part, value_part, option_named, is_offered, is_given, all_given, with_value}
+use Rattle.line_core.specs.Options.{is_option, name_part, value_part, option_named, is_offered, is_given, all_given}
+use Rattle.line_core.specs.Options.{with_value}
 use Rattle.line_core.specs.Position.{fits}
 
 -- the text is the value of this option, whose word has this number
 abbrev pub stored : Progress → OptionName → ℕ → List ℕ → Result Progress LineFault
 stored progress name number text =
-    with_value progress.values name number text >>= λ values. Ok (record { filled = progress.filled; values = values; awaited = None })
+    with_value progress.values name number text >>= λ values. Ok
+    (record { filled = progress.filled; values = values; awaited = None })
 
 -- the value of an option follows its `=`, or is the next word
 abbrev pub valued : Progress → OptionName → ℕ → Option (List ℕ) → Result Progress LineFault

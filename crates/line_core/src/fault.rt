@@ -24,7 +24,7 @@ pub enum LineFault {
     /// The option is given before.
     #[error("option given twice at word {0}")]
     Twice(u64),
-    /// The word is no number of the range that stands there.
+    /// The word is no number of the range that its place takes.
     #[error("bad number at word {0}")]
     BadNumber(u64),
     /// The word is none of those that the option takes.

@@ -3,7 +3,8 @@ ghost use Rattle.std.specs.Prelude.{◌≡◌, ◌≤◌, ◌+◌, ◌<◌, ◌^
 ghost use Rattle.std.specs.Option.{option_copied};
 ghost use Rattle.line_core.specs.Texts.{texts};
 ghost use Rattle.line_core.specs.Command.{Command, command_of, read_as, HasItsRanges};
-ghost use Rattle.line_core.specs.Line.{follows, begins, verb_in, begins_some, command_from, rest_gives, after_first, line_gives};
+ghost use Rattle.line_core.specs.Line.{follows, begins, verb_in, begins_some, command_from, rest_gives, after_first};
+ghost use Rattle.line_core.specs.Line.{line_gives};
 
 use crate::command::{Job, Verb, first_word, kinds_of, offers_of, second_word, verbs};
 use crate::fault::LineFault;
@@ -150,7 +151,7 @@ fn read_command(verb: Verb, more: &[String]) -> Result<Job<'_>, LineFault>
 }
 
 /// The job of the words after the program's name, or their first fault from left to right. It takes no
-/// memory. Options may stand anywhere between the positions, with their value after `=` or as the next
+/// memory. Options may be anywhere between the positions, with their value after `=` or as the next
 /// word.
 pub fn read_line(words: &[String]) -> Result<Job<'_>, LineFault>
     ensures { read_as result ≡ line_gives (texts words.now) }

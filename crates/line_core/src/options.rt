@@ -1,7 +1,8 @@
 //! The options of the command line.
 ghost use Rattle.std.specs.Prelude.{◌≡◌};
 ghost use Rattle.std.specs.Option.{option_copied};
-ghost use Rattle.line_core.specs.Options.{is_option, name_part, value_part, option_named, encoding_named, is_same, is_offered, is_given, all_given, with_value};
+ghost use Rattle.line_core.specs.Options.{is_option, name_part, value_part, option_named, encoding_named, is_same};
+ghost use Rattle.line_core.specs.Options.{is_offered, is_given, all_given, with_value};
 
 use crate::fault::LineFault;
 use crate::number::{Quantity, quantity_in};

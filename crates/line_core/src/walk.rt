@@ -10,7 +10,7 @@ use crate::options::{
 };
 use crate::position::{Kind, fits, kind_at};
 
-/// How far the words are read.
+/// The state of the walk after the words so far.
 #[derive(Clone, Copy)]
 pub(crate) struct Progress {
     /// How many positions are filled.

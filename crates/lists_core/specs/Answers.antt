@@ -14,7 +14,8 @@ require false fault = Err fault
 
 -- a call returns what a definition says, with its value seen in this way, or else that memory ran out
 abbrev pub AnswersAs : {T A E : Type 0} → E → Result T E → Result A E → (T → A) → Type 0
-AnswersAs no_memory result answer seen = MatchResult result (λ value. answer ≡ Ok (seen value)) (λ fault. (fault ≡ no_memory) ⊎ (answer ≡ Err fault))
+AnswersAs no_memory result answer seen =
+    MatchResult result (λ value. answer ≡ Ok (seen value)) (λ fault. (fault ≡ no_memory) ⊎ (answer ≡ Err fault))
 
 -- the same for a call whose value is seen as it is
 abbrev pub Answers : {A E : Type 0} → E → Result A E → Result A E → Type 0

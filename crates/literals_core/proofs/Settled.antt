@@ -46,7 +46,7 @@ two_by_count set (x ∷ xs) distinct two = elim (cases_Bool (is_false set x)) [
   | inr stays ↦ (let n = ap length (open_more set x xs stays) in two_of set x xs distinct stays (omega (arith, n, two)))
 ]
 
--- two different ones count as two, whatever stands twice
+-- two different ones count as two, whatever occurs twice
 pub count_of_two : (set clause : List ℕ) → HasTwoOpen set clause → 2 ≤ length (open_literals set clause)
 count_of_two set clause two =
     length-two (open_literals set clause) two.first two.second two.differ

@@ -36,7 +36,7 @@ four_is_not_true = refl
 four_is_not_false : is_false (2 ∷ 6 ∷ []) 8 ≡ false
 four_is_not_false = refl
 
--- an open literal stays as often as it stands
+-- an open literal stays as often as it occurs
 open_ones : open_literals (2 ∷ 6 ∷ []) (7 ∷ 8 ∷ 3 ∷ 8 ∷ []) ≡ 8 ∷ 8 ∷ []
 open_ones = refl
 

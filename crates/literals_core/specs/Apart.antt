@@ -4,4 +4,6 @@ use Rattle.literals_core.specs.Literal.{variable_of}
 
 -- no two literals are of one variable
 abbrev pub AreApart : List ℕ → Type 0
-AreApart literals = (i j : ℕ) → i < j → j < length literals → variable_of (slice_index_or literals i 0) ≢ variable_of (slice_index_or literals j 0)
+AreApart literals =
+    (i j : ℕ) → i < j → j < length literals
+    → variable_of (slice_index_or literals i 0) ≢ variable_of (slice_index_or literals j 0)

@@ -1,4 +1,5 @@
--- Formulas in conjunctive normal form: variables are numbered from 1, and a clause is a list of literals (the numbering of DIMACS).
+-- Formulas in conjunctive normal form: variables are numbered from 1, and a clause is a list of literals (the numbering
+-- of DIMACS).
 use Rattle.std.specs.Prelude.{ℕ, ◌≤◌, ◌+◌, ◌*◌, List, All}
 use Rattle.literals_core.specs.Literal.{variable_of}
 

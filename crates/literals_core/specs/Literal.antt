@@ -1,4 +1,4 @@
--- A literal is seen as its place: twice its variable, and one more where its sign is minus.
+-- A literal is seen as its place: twice its variable, and one more if its sign is minus.
 use Rattle.std.specs.Prelude.{ℕ, ◌+◌, ◌-◌, ◌/◌, ◌%◌, ◌==◌, if◌then◌else◌}
 
 abbrev pub variable_of : ℕ → ℕ

@@ -5,7 +5,8 @@ use Rattle.literals_core.specs.Literal.{negation}
 -- the literals that it gives: those of the set, and a literal of a clause whose other literals have given negations
 pub data IsGiven (clauses : List (List ℕ)) (set : List ℕ) : ℕ → Type 0 where
   of_set : {l : ℕ} → Contains set l → IsGiven clauses set l
-  by_unit : {clause : List ℕ} {l : ℕ} → Contains clauses clause → Contains clause l → ((x : ℕ) → Contains clause x → x ≢ l → IsGiven clauses set (negation x)) → IsGiven clauses set l
+  by_unit : {clause : List ℕ} {l : ℕ} → Contains clauses clause → Contains clause l
+      → ((x : ℕ) → Contains clause x → x ≢ l → IsGiven clauses set (negation x)) → IsGiven clauses set l
 
 -- it meets a conflict: a clause all of whose literals have given negations
 pub record MeetsConflict (clauses : List (List ℕ)) (set : List ℕ) : Type 0 where

@@ -15,6 +15,6 @@ pub record HasTwoOpen (set clause : List ℕ) : Type 0 where
 abbrev pub IsSettled : List ℕ → List ℕ → Type 0
 IsSettled set clause = Any (IsTrueUnder set) clause ⊎ HasTwoOpen set clause
 
--- the same by a count, where a literal that stands twice counts twice
+-- the same by a count, in which a literal that occurs twice counts twice
 abbrev pub IsSettledByCount : List ℕ → List ℕ → Type 0
 IsSettledByCount set clause = (list_any (is_true set) clause ≡ true) ⊎ (2 ≤ length (open_literals set clause))

@@ -1,10 +1,11 @@
-//! Literals, clauses and formulas, in definitions and laws: negation, truth under a set of literals and under truth values, settled
-//! clauses, unit propagation; and the names of the encodings.
+//! Literals, clauses and formulas, in definitions and laws: negation, truth under a set of literals and under truth
+//! values, settled clauses, unit propagation; and the names of the encodings.
 #![tactic(auto)]
 
 mod encoding;
 
-ghost use Rattle.std.specs.Prelude.{◌≡◌, ◌≢◌, ◌≤◌, ◌+◌, ◌==◌, ◌⊎◌, ◌↔◌, ℕ, Bool, true, not, List, length, Contains, All};
+ghost use Rattle.std.specs.Prelude.{◌≡◌, ◌≢◌, ◌≤◌, ◌+◌, ◌==◌, ◌⊎◌, ◌↔◌, ℕ, Bool, true, not, List, length, Contains};
+ghost use Rattle.std.specs.Prelude.{All};
 ghost use Rattle.std.specs.List.{IsDistinct};
 ghost use Rattle.literals_core.specs.Literal.{variable_of, negation};
 ghost use Rattle.literals_core.specs.Truth.{IsTrueUnder, IsFalseUnder, is_true, is_false, open_literals};
@@ -31,17 +32,21 @@ pub fn variable_has_a_literal_and_its_negation()
 pub fn computed_truth_is_truth()
     ensures trues { (set : List ℕ) (l : ℕ) → (is_true set l ≡ true) ↔ IsTrueUnder set l }
     ensures falses { (set : List ℕ) (l : ℕ) → (is_false set l ≡ true) ↔ IsFalseUnder set l }
-    ensures opens { (set clause : List ℕ) (l : ℕ) → Contains (open_literals set clause) l ↔ (Contains clause l × ¬ IsFalseUnder set l) }
+    ensures opens { (set clause : List ℕ) (l : ℕ)
+        → Contains (open_literals set clause) l ↔ (Contains clause l × ¬ IsFalseUnder set l) }
 {}
 
-/// A law: a clause of distinct literals has at least two open literals by count exactly when two different literals are open.
+/// A law: a clause of distinct literals has at least two open literals by count exactly when two different literals are
+/// open.
 pub fn two_open_by_count_are_two_different()
-    ensures { (set clause : List ℕ) → IsDistinct (λ x y. x == y) clause → (2 ≤ length (open_literals set clause)) ↔ HasTwoOpen set clause }
+    ensures { (set clause : List ℕ) → IsDistinct (λ x y. x == y) clause
+        → (2 ≤ length (open_literals set clause)) ↔ HasTwoOpen set clause }
 {}
 
 /// A law: a clause of distinct literals is settled by count exactly when it is settled.
 pub fn settled_by_count_is_settled()
-    ensures { (set clause : List ℕ) → IsDistinct (λ x y. x == y) clause → IsSettledByCount set clause ↔ IsSettled set clause }
+    ensures { (set clause : List ℕ) → IsDistinct (λ x y. x == y) clause
+        → IsSettledByCount set clause ↔ IsSettled set clause }
 {}
 
 /// A law: truth values make exactly one of a literal and its negation true.
@@ -49,8 +54,8 @@ pub fn literal_and_its_negation_have_opposite_truth()
     ensures { (values : ℕ → Bool) (l : ℕ) → literal_true values (negation l) ≡ not (literal_true values l) }
 {}
 
-/// A law: values that make the clauses and the literals of a set true make each literal true that unit propagation gives, and there are
-/// no such values if it meets a conflict.
+/// A law: values that make the clauses and the literals of a set true make each literal true that unit propagation
+/// gives, and there are no such values if it meets a conflict.
 pub fn given_literals_are_true()
     ensures literals { (values : ℕ → Bool) (clauses : List (List ℕ)) (set : List ℕ) (l : ℕ) → Satisfies values clauses
         → All (λ x. literal_true values x ≡ true) set → IsGiven clauses set l → literal_true values l ≡ true }
@@ -58,8 +63,8 @@ pub fn given_literals_are_true()
         → All (λ x. literal_true values x ≡ true) set → ¬ MeetsConflict clauses set }
 {}
 
-/// A law: variables may be numbered from another number on. Places are then raised by an even number, and negation, truth, open literals
-/// and settled clauses stay as they are.
+/// A law: variables may be numbered from another number on. Places are then raised by an even number, and negation,
+/// truth, open literals and settled clauses stay as they are.
 pub fn numbering_may_start_elsewhere()
     ensures variable { (by l : ℕ) → variable_of (raised by l) ≡ variable_of l + by }
     ensures negated { (by l : ℕ) → negation (raised by l) ≡ raised by (negation l) }
@@ -67,7 +72,8 @@ pub fn numbering_may_start_elsewhere()
     ensures falses { (by : ℕ) (set : List ℕ) (l : ℕ) → is_false (all_raised by set) (raised by l) ≡ is_false set l }
     ensures opens { (by : ℕ) (set clause : List ℕ)
         → open_literals (all_raised by set) (all_raised by clause) ≡ all_raised by (open_literals set clause) }
-    ensures settled { (by : ℕ) (set clause : List ℕ) → IsSettled (all_raised by set) (all_raised by clause) ↔ IsSettled set clause }
+    ensures settled { (by : ℕ) (set clause : List ℕ)
+        → IsSettled (all_raised by set) (all_raised by clause) ↔ IsSettled set clause }
     ensures counted { (by : ℕ) (set clause : List ℕ)
         → IsSettledByCount (all_raised by set) (all_raised by clause) ↔ IsSettledByCount set clause }
     ensures values { (by : ℕ) (values : ℕ → Bool) (clause : List ℕ)

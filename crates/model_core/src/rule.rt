@@ -1,5 +1,6 @@
 //! The category that a model gives.
-ghost use Rattle.std.specs.Prelude.{◌≡◌, ◌-◌, ◌<◌, ◌≤◌, ◌^◌, ◌%◌, ◌==◌, false, length, All, pos, int_lt, unsigned_abs, if◌then◌else◌};
+ghost use Rattle.std.specs.Prelude.{◌≡◌, ◌-◌, ◌<◌, ◌≤◌, ◌^◌, ◌%◌, ◌==◌, false, length, All, pos, int_lt, unsigned_abs};
+ghost use Rattle.std.specs.Prelude.{if◌then◌else◌};
 ghost use Rattle.std.specs.List.{list_any};
 ghost use Rattle.problem_core.specs.Grade.{direction_of};
 ghost use Rattle.sorting_rule.specs.Preference.{accepts};

@@ -21,47 +21,17 @@ use Rattle.model_core.specs.Model.{ModelValue, AreCoalitions, Belongs, boundarie
 use Rattle.model_core.specs.declared.model.Coalitions.{Coalitions}
 use Rattle.model_core.specs.declared.model.Coalitions.TheVariants.{Weights, Roots}
 use Rattle.model_core.specs.declared.model.Profile.{Profile}
+use Rattle.written_core.proofs.Lists.{word_leaf, count-more, scalar-count, flow-count}
 use Rattle.model_text_core.specs.ModelText.{threshold_scalar, weight_scalar, place_word, places_in, root_scalars, model_outline, model_text, HasFewRoots, HaveFewRoots, ReadsBack, ReadsWhole}
-use Rattle.model_text_core.proofs.Meaning.{word_leaf, thresholds_measured, accepted_measured, root_measured, coalition_measured, model_measured, model-outlined}
+use Rattle.model_text_core.proofs.Meaning.{thresholds_measured, accepted_measured, root_measured, coalition_measured, model_measured, model-outlined}
 use Rattle.model_text_core.proofs.ModelText.{model-good}
-
--- the nodes of a list, from those of its first
-count-more : (m : Measured) (ms : List Measured) → count_of (m ∷ ms) ≡ node_count m.node + count_of ms
-count-more m ms =
-    let count : Measured → ℕ = λ n. node_count n.node in
-    sum-map count (m ∷ ms) ∙ sum_by-cons count m ms ∙ ap (λ n. count m + n) (sym (sum-map count ms))
-
--- ---- scalars
-
-plain-count : (t : List ℕ) → node_count (plain_node t) ≡ 1
-plain-count t = by_test (is_null_word t)
-  where
-    by_test : (b : Bool) → node_count (if b then node.Null else node.Scalar t) ≡ 1
-    by_test true = count-Null
-    by_test false = count-Scalar t
-
-scalar-count : (s : Scalar) → node_count (scalar_leaf s).node ≡ 1
-scalar-count (Word t) = plain-count t
-scalar-count (Text t) = count-Quoted t
-
-scalars-count : (ss : List Scalar) → count_of (map scalar_leaf ss) ≡ length ss
-scalars-count [] = refl
-scalars-count (s ∷ ss) =
-    let whole = count-more (scalar_leaf s) (map scalar_leaf ss) in
-    let one = scalar-count s in
-    let more = scalars-count ss in
-    omega (arith, whole, one, more)
-
--- a flow list of scalars
-flow-count : (ss : List Scalar) → node_count (list_node (map scalar_leaf ss)).node ≡ 1 + length ss
-flow-count ss = count-list (map scalar_leaf ss) ∙ ap (λ n. 1 + n) (scalars-count ss)
 
 -- ---- thresholds
 
 thresholds-count : (scale : Scale) (ts : List (Option ℤ)) → length ts ≤ 9 → node_count (thresholds_measured scale ts).node ≤ 12
 thresholds-count scale ts few =
     let whole = count-map ((codes "kind", word_leaf (codes "thresholds")) ∷ (codes "thresholds", list_node (map scalar_leaf (map (threshold_scalar scale) ts))) ∷ []) in
-    let kind = plain-count (codes "thresholds") in
+    let kind = scalar-count (Word (codes "thresholds")) in
     let grades = flow-count (map (threshold_scalar scale) ts) in
     let same = length-map ts (threshold_scalar scale) in
     omega (arith, whole, kind, grades, same, few)
@@ -108,14 +78,14 @@ most_of_coalitions = 1114115
 coalition-count : (count : ℕ) (c : Coalitions) → count ≤ 16 → AreCoalitions count c → HasFewRoots c → node_count (coalition_measured count c).node ≤ most_of_coalitions
 coalition-count count (Weights ws) few is short =
     let whole = count-map ((codes "kind", word_leaf (codes "weights")) ∷ (codes "criterion_weights", list_node (map scalar_leaf (map weight_scalar ws))) ∷ []) in
-    let kind = plain-count (codes "weights") in
+    let kind = scalar-count (Word (codes "weights")) in
     let weights = flow-count (map weight_scalar ws) in
     let same = length-map ws weight_scalar in
     let each = is.0 in
     omega (arith, whole, kind, weights, same, each, few)
 coalition-count count (Roots roots) few is short =
     let whole = count-map ((codes "kind", word_leaf (codes "roots")) ∷ (codes "upset_roots", list_node (map (root_measured count) roots)) ∷ []) in
-    let kind = plain-count (codes "roots") in
+    let kind = scalar-count (Word (codes "roots")) in
     let list = count-list (map (root_measured count) roots) in
     let inner = roots-count count roots few in
     omega (arith, whole, kind, list, inner, short)
@@ -146,8 +116,8 @@ model-count problem m p b short =
     let whole = count-map ((codes "kind", word_leaf (codes "ncs-classification-model")) ∷ (codes "format_version", word_leaf (codes "1"))
     ∷ (codes "accepted_values", list_node (accepted_measured problem.criteria m.profiles))
     ∷ (codes "sufficient_coalitions", list_node (map (coalition_measured count) m.coalitions)) ∷ []) in
-    let kind = plain-count (codes "ncs-classification-model") in
-    let version = plain-count (codes "1") in
+    let kind = scalar-count (Word (codes "ncs-classification-model")) in
+    let version = scalar-count (Word (codes "1")) in
     let first = count-list (accepted_measured problem.criteria m.profiles) in
     let second = count-list (map (coalition_measured count) m.coalitions) in
     omega (arith, few, boundaries, accepted, coalitions, rows, whole, kind, version, first, second)

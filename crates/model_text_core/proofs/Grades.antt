@@ -8,6 +8,7 @@ use Rattle.std.proofs.lemmas.Bool.Decides.{nat_tests}
 use Rattle.std.proofs.lemmas.List.Elements.{All-head, All-tail}
 use Rattle.std.proofs.lemmas.List.Quantifiers.{position-Some}
 use Rattle.std.proofs.lemmas.Slice.Eq.{bytes_eq-Decides}
+use Rattle.std.proofs.lemmas.List.{length-map}
 use Rattle.fixed_core.specs.declared.fault.FixedFault.{FixedFault}
 use Rattle.fixed_core.specs.Spelling.{spelling}
 use Rattle.fixed_core.specs.Value.{fixed_of}
@@ -31,10 +32,12 @@ use Rattle.model_core.specs.ReadAccepted.{items_of_kind, is_null_in, is_null, gr
 use Rattle.model_core.specs.declared.model.Profile.{Profile}
 use Rattle.model_core.specs.declared.model_fault.ModelFault.{ModelFault}
 use Rattle.model_core.specs.declared.model_fault.ModelFault.TheVariants as fault
+use Rattle.written_core.proofs.Lookups.{text-Scalar, text-Quoted, some-Scalar, some-List}
+use Rattle.written_core.proofs.Lists.{word_leaf, nodes-scalars}
+use Rattle.written_core.proofs.Words.{spelling-word, number-node}
 use Rattle.model_text_core.specs.ModelText.{grade_scalar, threshold_scalar}
-use Rattle.model_text_core.proofs.Lookups.{text-Scalar, text-Quoted, some-Scalar, some-List, kind-items}
-use Rattle.model_text_core.proofs.Meaning.{word_leaf, thresholds_measured, accepted_measured}
-use Rattle.model_text_core.proofs.Words.{spelling-word, number-node}
+use Rattle.model_text_core.proofs.Lookups.{kind-items}
+use Rattle.model_text_core.proofs.Meaning.{thresholds_measured, accepted_measured}
 
 -- ---- numbers
 
@@ -132,10 +135,6 @@ written-threshold scale (Some t) h =
 abbrev grade_nodes : Scale → List (Option ℤ) → List Node
 grade_nodes scale ts = map (λ m. m.node) (map scalar_leaf (map (threshold_scalar scale) ts))
 
-length-nodes : (scale : Scale) (ts : List (Option ℤ)) → length (grade_nodes scale ts) ≡ length ts
-length-nodes scale [] = refl
-length-nodes scale (t ∷ ts) = let h = length-nodes scale ts in omega (arith, h)
-
 thresholds-read : (scale : Scale) (f : ModelFault) (earlier ts : List (Option ℤ)) → All (IsThreshold scale) ts → thresholds_of scale f earlier (grade_nodes scale ts) ≡ Ok (earlier ++ ts)
 unfolding thresholds_of
 thresholds-read scale f earlier [] all = ap (λ (xs : List (Option ℤ)). Ok xs) (sym (append-nil earlier))
@@ -154,7 +153,7 @@ accepted-read : (boundaries place : ℕ) (scale : Scale) (ts : List (Option ℤ)
 unfolding accepted_of
 accepted-read boundaries place scale ts long all ordered =
     let ns = grade_nodes scale ts in
-    let counted : (length ns == boundaries) ≡ true = same-numbers (length ns) boundaries (length-nodes scale ts ∙ long) in
+    let counted : (length ns == boundaries) ≡ true = same-numbers (length ns) boundaries (ap length (nodes-scalars (threshold_scalar scale) ts) ∙ length-map ts (λ t. scalar_node (threshold_scalar scale t)) ∙ long) in
     ap (λ o. ok_or o (fault.AcceptedForm place) >>= λ items. require (length items == boundaries) (fault.AcceptedCount place) >>= λ _. thresholds_of scale (fault.Threshold place) [] items
     >>= λ thresholds. require (are_grades_ordered scale thresholds) (fault.Order place) >>= λ _. Ok (record { thresholds = thresholds })) (thresholds-items scale ts)
     ∙ ap (λ b. require b (fault.AcceptedCount place) >>= λ _. thresholds_of scale (fault.Threshold place) [] ns

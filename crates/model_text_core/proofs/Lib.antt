@@ -1,5 +1,4 @@
 pub mod Meaning
-pub mod Words
 pub mod Lookups
 pub mod RootReads
 pub mod Grades
@@ -9,7 +8,6 @@ pub mod PlaceTexts
 pub mod PutFacts
 pub mod PartTexts
 pub mod Examples
-pub mod FlowTexts
 pub mod RowTexts
 pub mod SameLists
 pub mod Counts

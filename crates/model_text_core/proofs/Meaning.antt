@@ -12,17 +12,15 @@ use Rattle.problem_core.specs.Problem.{ProblemValue}
 use Rattle.problem_core.specs.declared.criterion.Criterion.{Criterion}
 use Rattle.problem_core.specs.declared.criterion.Scale.{Scale}
 use Rattle.written_core.specs.Document.{Scalar, Flow, Same}
-use Rattle.written_core.specs.Outline.{Outline, Leaf, End, Under, Dashed, Anchored, are_items, scalar_leaf, entries_by, items_by, block_of, meaning, outline_measured}
+use Rattle.written_core.specs.Outline.{Outline, Leaf, End, Under, Dashed, Anchored, are_items, scalar_leaf, entries_by, items_by, block_of, meaning, outline_measured, listed}
+use Rattle.written_core.proofs.Lists.{word_leaf, flow-meant, listed-meant, item-then}
 use Rattle.model_core.specs.declared.model.Coalitions.{Coalitions}
 use Rattle.model_core.specs.declared.model.Coalitions.TheVariants.{Weights, Roots}
 use Rattle.model_core.specs.declared.model.Profile.{Profile}
 use Rattle.model_core.specs.Model.{ModelValue}
-use Rattle.model_text_core.specs.ModelText.{listed, threshold_scalar, weight_scalar, is_same, all_same, are_same, thresholds_outline, accepted_outline, root_scalars, roots_outline, coalition_outline, each_outline, same_outline, coalitions_outline, model_outline}
+use Rattle.model_text_core.specs.ModelText.{threshold_scalar, weight_scalar, is_same, all_same, are_same, thresholds_outline, accepted_outline, root_scalars, roots_outline, coalition_outline, each_outline, same_outline, coalitions_outline, model_outline}
 
 -- ---- the nodes
-
-abbrev pub word_leaf : List ℕ → Measured
-word_leaf t = leaf (plain_node t)
 
 abbrev pub thresholds_measured : Scale → List (Option ℤ) → Measured
 thresholds_measured scale ts = map_node ((codes "kind", word_leaf (codes "thresholds")) ∷ (codes "thresholds", list_node (map scalar_leaf (map (threshold_scalar scale) ts))) ∷ [])
@@ -44,29 +42,6 @@ model_measured problem m = map_node
     ((codes "kind", word_leaf (codes "ncs-classification-model")) ∷ (codes "format_version", word_leaf (codes "1"))
     ∷ (codes "accepted_values", list_node (accepted_measured problem.criteria m.profiles))
     ∷ (codes "sufficient_coalitions", list_node (map (coalition_measured (length problem.criteria)) m.coalitions)) ∷ [])
-
--- ---- lists
-
-flow-meant : (d : ℕ) (ss : List Scalar) (names : Names) → meaning (suc (suc d)) (Leaf (Flow ss)) names ≡ Some (list_node (map scalar_leaf ss), names)
-unfolding meaning
-flow-meant d [] names = refl
-flow-meant d (s ∷ ss) names = refl
-
--- items, or the empty list
-listed-meant : (d : ℕ) (o : Outline) (ms : List Measured) (names after : Names) → are_items o ≡ true → items_by (meaning (suc d)) [] o names ≡ Some (ms, after)
-    → meaning (suc (suc d)) (listed o) names ≡ Some (list_node ms, after)
-unfolding meaning
-listed-meant d (Leaf v) ms names after h e = absurd (cc)
-listed-meant d (Under key first more) ms names after h e = absurd (cc)
-listed-meant d (Anchored name o) ms names after h e = absurd (cc)
-listed-meant d End ms names after h e = ap (and_then (λ ns. gives (list_node ns))) e
-listed-meant d (Dashed first more) ms names after h e = ap (and_then (λ ns. gives (list_node ns))) e
-
--- one more item
-item-then : (below : Outline → Reading Measured) (before : List Measured) (first more : Outline) (m : Measured) (ms : List Measured) (names mid after : Names) → below first names ≡ Some (m, mid)
-    → items_by below (before ++ m ∷ []) more mid ≡ Some ((before ++ m ∷ []) ++ ms, after) → items_by below before (Dashed first more) names ≡ Some (before ++ m ∷ ms, after)
-item-then below before first more m ms names mid after e f =
-    ap (and_then (λ n. items_by below (before ++ n ∷ []) more)) e ∙ f ∙ ap (λ (ns : List Measured). Some (ns, after)) (append_assoc before (m ∷ []) ms)
 
 -- ---- thresholds
 

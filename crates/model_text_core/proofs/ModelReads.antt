@@ -2,10 +2,12 @@
 use Rattle.std.proofs.Common.{◌≡◌, ℕ, ◌≤◌, true, List, [], ◌∷◌, length, map, codes, refl, ap, ◌∙◌, arith, Option, Some, Result, Ok}
 use Rattle.std.specs.Prelude.{◌==◌, ok_or}
 use Rattle.std.proofs.lemmas.Bool.Decides.{nat_tests}
+use Rattle.std.proofs.lemmas.List.{length-map}
 use Rattle.yaml_core.specs.declared.node.Node.{Node}
+use Rattle.yaml_core.specs.declared.node.Node.TheVariants as node
 use Rattle.yaml_core.specs.Measured.{Entry, list_node, map_node, pair_of}
 use Rattle.problem_core.specs.Problem.{ProblemValue}
-use Rattle.problem_core.specs.Tree.{items_under, says}
+use Rattle.problem_core.specs.Tree.{items_under, says, is_map_in, is_text}
 use Rattle.model_core.specs.Model.{boundaries_of, Belongs}
 use Rattle.lists_core.specs.Answers.{◌>>=◌, require}
 use Rattle.model_core.specs.ReadAccepted.{all_accepted}
@@ -16,8 +18,9 @@ use Rattle.model_core.specs.declared.model.Profile.{Profile}
 use Rattle.model_core.specs.Model.{ModelValue}
 use Rattle.model_core.specs.declared.model_fault.ModelFault.{ModelFault}
 use Rattle.model_core.specs.declared.model_fault.ModelFault.TheVariants as fault
-use Rattle.model_text_core.proofs.Lookups.{some-Scalar, some-List, map-Map, says-word, items-list}
-use Rattle.model_text_core.proofs.Meaning.{word_leaf, accepted_measured, coalition_measured, model_measured}
+use Rattle.written_core.proofs.Lookups.{some-Scalar, some-List, word-under, list-under}
+use Rattle.written_core.proofs.Lists.{word_leaf}
+use Rattle.model_text_core.proofs.Meaning.{accepted_measured, coalition_measured, model_measured}
 use Rattle.model_text_core.proofs.RootReads.{coalitions-read}
 use Rattle.model_text_core.proofs.Grades.{all-accepted-read, length-accepted}
 
@@ -38,20 +41,16 @@ module _ (problem : ProblemValue) (m : ModelValue) where
   unfolding header_of
   header-read =
       ap (λ b. require b fault.NotAMap >>= λ _. require (says (codes "kind") (codes "ncs-classification-model") (map_node (entries problem m)).node) fault.Kind >>= λ _.
-      require (says (codes "format_version") (codes "1") (map_node (entries problem m)).node) fault.Version) (map-Map (map pair_of (entries problem m)))
+      require (says (codes "format_version") (codes "1") (map_node (entries problem m)).node) fault.Version) (ap is_map_in (node.outs-Map (map pair_of (entries problem m))))
       ∙ ap (λ b. require b fault.Kind >>= λ _. require (says (codes "format_version") (codes "1") (map_node (entries problem m)).node) fault.Version)
-      (says-word (codes "kind") (codes "ncs-classification-model") (entries problem m) (codes "ncs-classification-model") (some-Scalar (codes "ncs-classification-model")))
-      ∙ ap (λ b. require b fault.Version) (says-word (codes "format_version") (codes "1") (entries problem m) (codes "1") (some-Scalar (codes "1")))
+      (ap (is_text (codes "ncs-classification-model")) (word-under (codes "kind") (entries problem m) (codes "ncs-classification-model") (some-Scalar (codes "ncs-classification-model"))))
+      ∙ ap (λ b. require b fault.Version) (ap (is_text (codes "1")) (word-under (codes "format_version") (entries problem m) (codes "1") (some-Scalar (codes "1"))))
 
   accepted-found : items_under (codes "accepted_values") (model_measured problem m).node ≡ Some (accepted_nodes problem m)
-  accepted-found = items-list (codes "accepted_values") (entries problem m) (accepted_nodes problem m) (some-List (accepted_nodes problem m))
+  accepted-found = list-under (codes "accepted_values") (entries problem m) (accepted_nodes problem m) (some-List (accepted_nodes problem m))
 
   coalitions-found : items_under (codes "sufficient_coalitions") (model_measured problem m).node ≡ Some (coalition_nodes problem m)
-  coalitions-found = items-list (codes "sufficient_coalitions") (entries problem m) (coalition_nodes problem m) (some-List (coalition_nodes problem m))
-
-length-map-map : {X Y Z : Type 0} (f : Y → Z) (g : X → Y) (xs : List X) → length (map f (map g xs)) ≡ length xs
-length-map-map f g [] = refl
-length-map-map f g (x ∷ xs) = let h = length-map-map f g xs in omega (arith, h)
+  coalitions-found = list-under (codes "sufficient_coalitions") (entries problem m) (coalition_nodes problem m) (some-List (coalition_nodes problem m))
 
 sized-by : (count : ℕ) (items : List Node) → length items ≡ count → sized count (Some items) ≡ Some items
 sized-by count items h = rw (same-numbers (length items) count h) refl
@@ -82,5 +81,5 @@ model-read problem m few b =
     ap (λ (r : Result (Unit {0}) ModelFault). r >>= λ _. with_accepted problem n (sized count (items_under (codes "accepted_values") n))) (header-read problem m)
     ∙ ap (with_accepted problem n) (ap (sized count) (accepted-found problem m) ∙ sized-by count (accepted_nodes problem m) (length-accepted problem.criteria m.profiles b.criteria))
     ∙ ap (with_thresholds problem n) (all-accepted-read boundaries [] problem.criteria m.profiles b.thresholds b.grades b.ordered)
-    ∙ ap (with_coalitions problem m.profiles) (ap (sized boundaries) (coalitions-found problem m) ∙ sized-by boundaries (coalition_nodes problem m) (length-map-map (λ x. x.node) (coalition_measured count) m.coalitions ∙ b.boundaries))
+    ∙ ap (with_coalitions problem m.profiles) (ap (sized boundaries) (coalitions-found problem m) ∙ sized-by boundaries (coalition_nodes problem m) (length-map (map (coalition_measured count) m.coalitions) (λ x. x.node) ∙ length-map m.coalitions (coalition_measured count) ∙ b.boundaries))
     ∙ ap (with_roots m.profiles) (coalitions-read count [] m.coalitions few b.coalitions)

@@ -17,28 +17,22 @@ use Rattle.problem_core.specs.declared.criterion.Criterion.{Criterion}
 use Rattle.problem_core.specs.declared.criterion.Scale.{Scale}
 use Rattle.problem_core.specs.declared.criterion.Scale.TheVariants.{Rising, Falling, Named}
 use Rattle.written_core.specs.Document.{IsGoodScalar, AreGoodScalars, AreUtf8Scalars}
-use Rattle.written_core.specs.Outline.{Outline, Leaf, End, Under, Dashed, Anchored, are_items, IsOutline, IsUtf8Outline}
+use Rattle.written_core.specs.Outline.{Outline, Leaf, End, Under, Dashed, Anchored, are_items, IsOutline, IsUtf8Outline, listed}
 use Rattle.written_core.proofs.Outlines.{outline-read}
-use Rattle.written_core.proofs.Utf8.{outline-reading}
+use Rattle.written_core.proofs.Utf8.{outline-reads-back}
 use Rattle.model_core.specs.Model.{IsThreshold, IsWeight, AreCoalitions, Belongs}
 use Rattle.model_core.specs.declared.model.Coalitions.{Coalitions}
 use Rattle.model_core.specs.declared.model.Coalitions.TheVariants.{Weights, Roots}
 use Rattle.model_core.specs.declared.model.Profile.{Profile}
 use Rattle.model_core.specs.Model.{ModelValue}
-use Rattle.model_text_core.specs.ModelText.{listed, threshold_scalar, weight_scalar, are_same, accepted_outline, places_in, place_word, roots_outline, coalition_outline, each_outline, same_outline, coalitions_outline, model_outline, HasUtf8Names, ReadsBack}
+use Rattle.written_core.proofs.Words.{decimal-word, spelling-word}
+use Rattle.written_core.proofs.Lists.{listed-good, listed-utf8}
+use Rattle.model_text_core.specs.ModelText.{threshold_scalar, weight_scalar, are_same, accepted_outline, places_in, place_word, roots_outline, coalition_outline, each_outline, same_outline, coalitions_outline, model_outline, HasUtf8Names, ReadsBack}
 use Rattle.model_text_core.proofs.Meaning.{model_measured, model-outlined, accepted-items, roots-items}
-use Rattle.model_text_core.proofs.Words.{decimal-word, spelling-word}
 use Rattle.model_text_core.proofs.Grades.{written-threshold}
 use Rattle.model_text_core.proofs.ModelReads.{model-read}
 
 -- ---- it may be written
-
-listed-good : (o : Outline) → IsOutline o → IsOutline (listed o)
-listed-good End h = tt
-listed-good (Leaf v) h = h
-listed-good (Under key first more) h = h
-listed-good (Dashed first more) h = h
-listed-good (Anchored name o) h = h
 
 grades-good : (scale : Scale) (ts : List (Option ℤ)) → All (IsThreshold scale) ts → AreGoodScalars (map (threshold_scalar scale) ts)
 grades-good scale [] all = tt
@@ -102,13 +96,6 @@ model-good problem m few b =
     ((refl, refl), (refl, ((refl, refl), (refl, ((refl, refl), (accepted, ((refl, refl), (coalitions, tt))))))))
 
 -- ---- its texts are UTF-8
-
-listed-utf8 : (o : Outline) → IsUtf8Outline o → IsUtf8Outline (listed o)
-listed-utf8 End h = tt
-listed-utf8 (Leaf v) h = h
-listed-utf8 (Under key first more) h = h
-listed-utf8 (Dashed first more) h = h
-listed-utf8 (Anchored name o) h = h
 
 name-utf8 : (names : List (List ℕ)) (place : ℕ) → All IsUtf8 names → IsUtf8 (name_in names place)
 name-utf8 [] place h = IsUtf8-nil
@@ -176,12 +163,6 @@ model-utf8 problem m h = (
 
 -- ---- read back
 
-within-few : (n : Node) → node_count n ≤ MOST_NODES → within_limit (Some n) ≡ Ok n
-within-few n h = let few : nat_le (node_count n) MOST_NODES ≡ true = at_most (node_count n) h in rw few refl
-  where
-    at_most : (k : ℕ) → k ≤ MOST_NODES → nat_le k MOST_NODES ≡ true
-    at_most k h = grind (arith, nat_tests)
-
 pub reads-back : (problem : ProblemValue) (m : ModelValue) → length problem.criteria ≤ 32 → All (λ criterion. HasUtf8Names criterion.scale) problem.criteria → Belongs problem m → ReadsBack problem m
 reads-back problem m few names b =
     let o = model_outline problem m in
@@ -191,7 +172,7 @@ reads-back problem m few names b =
     record {
       tree = tree;
       of_text = ap (λ (r : Option Measured). option_map (λ x. x.node) r) (outline-read o good ∙ measured);
-      of_bytes = λ h. outline-reading o good (model-utf8 problem m names) ∙ ap (λ (r : Option Measured). within_limit (option_map (λ x. x.node) r)) measured ∙ within-few tree h;
+      of_bytes = λ h. outline-reads-back o (model_measured problem m) good (model-utf8 problem m names) measured h;
       model = model-read problem m few b;
     }
 

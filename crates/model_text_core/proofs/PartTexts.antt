@@ -6,19 +6,15 @@ use Rattle.problem_core.specs.Problem.{ProblemValue, IsProblem}
 use Rattle.model_core.specs.Model.{Belongs}
 use Rattle.problem_core.specs.declared.criterion.Criterion.{Criterion}
 use Rattle.written_core.specs.Document.{Blank, Key, DocLine, line, flow_text, line_text, document_text}
-use Rattle.written_core.specs.Outline.{Outline, End, Under, Dashed, Anchored, outline_lines}
+use Rattle.written_core.specs.Outline.{Outline, End, Under, Dashed, Anchored, outline_lines, word, listed}
 use Rattle.model_core.specs.declared.model.Coalitions.{Coalitions}
 use Rattle.model_core.specs.declared.model.Coalitions.TheVariants.{Weights, Roots}
 use Rattle.model_core.specs.declared.model.Profile.{Profile}
 use Rattle.model_core.specs.Model.{ModelValue}
-use Rattle.model_text_core.specs.ModelText.{word, listed, threshold_scalar, weight_scalar, are_same, thresholds_outline, accepted_outline, root_scalars, roots_outline, coalition_outline, each_outline, same_outline, coalitions_outline, model_text}
-use Rattle.model_text_core.specs.Parts.{row, accepted_text, roots_text, upset_text, coalition_text, each_text, same_text, anchored_text, coalitions_text, text_by_parts}
-
--- the text of lines and of more lines
-pub document_text-append : (ls ms : List DocLine) → document_text (ls ++ ms) ≡ document_text ls ++ document_text ms
-document_text-append [] ms = refl
-document_text-append (l ∷ ls) ms =
-    ap (λ (t : List ℕ). line_text l ++ 10 ∷ t) (document_text-append ls ms) ∙ sym (append_assoc (line_text l) (10 ∷ document_text ls) (document_text ms))
+use Rattle.written_core.specs.Parts.{row}
+use Rattle.written_core.proofs.FlowTexts.{document_text-append}
+use Rattle.model_text_core.specs.ModelText.{threshold_scalar, weight_scalar, are_same, thresholds_outline, accepted_outline, root_scalars, roots_outline, coalition_outline, each_outline, same_outline, coalitions_outline, model_text}
+use Rattle.model_text_core.specs.Parts.{accepted_text, roots_text, upset_text, coalition_text, each_text, same_text, anchored_text, coalitions_text, text_by_parts}
 
 -- a row, and more behind what follows it
 row-more : (text more behind : List ℕ) → row text more ++ behind ≡ row text (more ++ behind)

@@ -3,18 +3,20 @@ use Rattle.std.proofs.Common.{◌≡◌, ℕ, suc, ◌+◌, ◌-◌, ◌/◌, �
 use Rattle.std.specs.Prelude.{◌==◌, decimal, if◌then◌else◌}
 use Rattle.std.proofs.lemmas.Bool.Decides.{nat_tests}
 use Rattle.std.proofs.lemmas.Nat.{mod_below}
+use Rattle.written_core.specs.Parts.{comma, left_text}
+use Rattle.written_core.proofs.FlowTexts.{item-left}
 use Rattle.model_text_core.specs.ModelText.{places_in, place_word}
-use Rattle.model_text_core.specs.Parts.{comma, left_text, place_text}
-use Rattle.model_text_core.proofs.FlowTexts.{item-left}
+use Rattle.model_text_core.specs.Parts.{place_text}
 
 -- what is left of a list of places
 abbrev pub places_left : ℕ → ℕ → ℕ → ℕ → List ℕ
 places_left written left place rest = left_text written (map place_word (places_in left place rest))
 
-odd-one : (n : ℕ) → (n % 2 == 1) ≡ true → n % 2 ≡ 1
+-- the least bit of a number, as it was tested
+pub odd-one : (n : ℕ) → (n % 2 == 1) ≡ true → n % 2 ≡ 1
 odd-one n e = grind (arith, nat_tests)
 
-even-none : (n : ℕ) → n % 2 < 2 → (n % 2 == 1) ≡ false → n % 2 ≡ 0
+pub even-none : (n : ℕ) → n % 2 < 2 → (n % 2 == 1) ≡ false → n % 2 ≡ 0
 even-none n low e = grind (arith, nat_tests)
 
 place-step : (written n place rest : ℕ) → places_left written (suc n) place rest ≡ place_text written place rest ++ places_left (written + rest % 2) n (place + 1) (rest / 2)

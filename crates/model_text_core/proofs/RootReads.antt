@@ -12,11 +12,12 @@ use Rattle.std.proofs.lemmas.Nat.Bits.{bit_at_above, and_pow}
 use Rattle.std.proofs.lemmas.Fmt.{decimal_is_IsNumeral}
 use Rattle.yaml_core.specs.declared.node.Node.{Node}
 use Rattle.std.specs.Result.{result_ok}
+use Rattle.std.proofs.lemmas.List.{length-map}
 use Rattle.fixed_core.specs.Spelling.{spelling}
 use Rattle.fixed_core.specs.Value.{fixed_of}
 use Rattle.fixed_core.proofs.ReadsBack.{spelling-reads}
 use Rattle.yaml_core.specs.Measured.{Entry, Measured, list_node, map_node}
-use Rattle.problem_core.specs.Tree.{items_under}
+use Rattle.problem_core.specs.Tree.{items_under, is_text}
 use Rattle.model_core.specs.Model.{IsWeight, AreCoalitions}
 use Rattle.model_core.specs.declared.model.Coalitions.{Coalitions}
 use Rattle.model_core.specs.declared.model.Coalitions.TheVariants.{Weights, Roots}
@@ -27,10 +28,13 @@ use Rattle.model_core.specs.ReadAccepted.{items_of_kind}
 use Rattle.model_core.specs.ReadCoalitions.{is_plain_number, place_in, with_criterion, with_item, set_of, root_of, roots_of, unless_negative, weight_in, weights_of, by_weights, by_roots, by_kind, coalitions_of, all_coalitions}
 use Rattle.model_core.specs.declared.model_fault.ModelFault.{ModelFault}
 use Rattle.model_core.specs.declared.model_fault.ModelFault.TheVariants as fault
+use Rattle.written_core.proofs.Lists.{word_leaf, nodes-scalars}
+use Rattle.written_core.proofs.Lookups.{text-Scalar, list-List, some-Scalar, some-List, word-under}
+use Rattle.written_core.proofs.Words.{decimal-word, spelling-word, number-node}
 use Rattle.model_text_core.specs.ModelText.{places_in, place_word, root_scalars, weight_scalar}
-use Rattle.model_text_core.proofs.Meaning.{word_leaf, root_measured, coalition_measured}
-use Rattle.model_text_core.proofs.Lookups.{text-Scalar, list-List, some-Scalar, some-List, says-word, kind-items}
-use Rattle.model_text_core.proofs.Words.{decimal-word, spelling-word, number-node}
+use Rattle.model_text_core.proofs.Meaning.{root_measured, coalition_measured}
+use Rattle.model_text_core.proofs.Lookups.{kind-items}
+use Rattle.model_text_core.proofs.PlaceTexts.{odd-one, even-none}
 
 -- ---- places
 
@@ -92,27 +96,21 @@ halved set n h = let double = two-pow-succ n in omega (arith, h, double, div-add
 parity : (set : ℕ) → set % 2 < 2
 parity set = mod_below set 2 (omega arith)
 
-odd-test : (set : ℕ) → (set % 2 == 1) ≡ true → set % 2 ≡ 1
-odd-test set e = grind (arith, nat_tests)
-
-even-test : (set : ℕ) → set % 2 < 2 → (set % 2 == 1) ≡ false → set % 2 ≡ 0
-even-test set low e = grind (arith, nat_tests)
-
--- one place more, where the rest of the set reads back
+-- one place more, if the rest of the set reads back
 set-step : (count n i acc set : ℕ) → i + suc n ≤ count → count ≤ 32 → acc < 2 ^ i → set < 2 ^ suc n
     → ((a s : ℕ) → a < 2 ^ (i + 1) → s < 2 ^ n → set_of count a (map (λ m. place_node m) (places_in n (i + 1) s)) ≡ Some (a + 2 ^ (i + 1) * s))
     → (t : Bool) → (set % 2 == 1) ≡ t
     → set_of count acc (map (λ m. place_node m) (if t then i ∷ places_in n (i + 1) (set / 2) else places_in n (i + 1) (set / 2))) ≡ Some (acc + 2 ^ i * set)
 unfolding set_of
 set-step count n i acc set h few low small rest true e =
-    let half : set ≡ set / 2 + set / 2 + 1 = omega (arith, div-add-mod set 2, odd-test set e) in
+    let half : set ≡ set / 2 + set / 2 + 1 = omega (arith, div-add-mod set 2, odd-one set e) in
     let next : i + 1 ≡ suc i = omega arith in
     let double : 2 ^ (i + 1) ≡ 2 ^ i + 2 ^ i = ap (λ k. 2 ^ k) next ∙ two-pow-succ i in
     ap (option_and_then (λ larger. set_of count larger (map (λ m. place_node m) (places_in n (i + 1) (set / 2))))) (item-read count acc i (omega (arith, h)) few low)
     ∙ rest (acc + 2 ^ i) (set / 2) (omega (arith, low, double)) (halved set n small)
     ∙ ap (λ (s : ℕ). Some s) (ap (λ p. (acc + 2 ^ i) + p * (set / 2)) double ∙ odd-sum acc (2 ^ i) (set / 2) ∙ ap (λ s. acc + 2 ^ i * s) (sym half))
 set-step count n i acc set h few low small rest false e =
-    let half : set ≡ set / 2 + set / 2 = omega (arith, div-add-mod set 2, even-test set (parity set) e) in
+    let half : set ≡ set / 2 + set / 2 = omega (arith, div-add-mod set 2, even-none set (parity set) e) in
     let next : i + 1 ≡ suc i = omega arith in
     let double : 2 ^ (i + 1) ≡ 2 ^ i + 2 ^ i = ap (λ k. 2 ^ k) next ∙ two-pow-succ i in
     rest acc (set / 2) (omega (arith, low, double)) (halved set n small)
@@ -127,10 +125,6 @@ set-read count zero i acc set h few low small =
     ap (λ (s : ℕ). Some s) (nothing ∙ ap (λ s. acc + 2 ^ i * s) (sym none))
 set-read count (suc n) i acc set h few low small =
     set-step count n i acc set h few low small (λ a s la ls. set-read count n (i + 1) a s (omega (arith, h)) few la ls) (set % 2 == 1) refl
-
-nodes-scalars : {X : Type 0} (f : X → Scalar) (xs : List X) → map (λ m. m.node) (map scalar_leaf (map f xs)) ≡ map (λ x. scalar_node (f x)) xs
-nodes-scalars f [] = refl
-nodes-scalars f (x ∷ xs) = ap (λ (ns : List Node). scalar_node (f x) ∷ ns) (nodes-scalars f xs)
 
 root-read : (count root : ℕ) → count ≤ 32 → root < 2 ^ count → root_of count (root_measured count root).node ≡ Some root
 root-read count root few small =
@@ -160,7 +154,7 @@ coalition-items count roots =
 no-weights : (count : ℕ) (roots : List ℕ) → items_of_kind (codes "weights") (codes "criterion_weights") (coalition_measured count (Roots roots)).node ≡ None
 no-weights count roots =
     let es : List Entry = (codes "kind", word_leaf (codes "roots")) ∷ (codes "upset_roots", list_node (map (root_measured count) roots)) ∷ [] in
-    ap (λ (t : Bool). if t then items_under (codes "criterion_weights") (map_node es).node else None) (says-word (codes "kind") (codes "weights") es (codes "roots") (some-Scalar (codes "roots")))
+    ap (λ (t : Bool). if t then items_under (codes "criterion_weights") (map_node es).node else None) (ap (is_text (codes "weights")) (word-under (codes "kind") es (codes "roots") (some-Scalar (codes "roots"))))
 
 -- ---- weights
 
@@ -184,15 +178,11 @@ weights-items count ws =
     kind-items (codes "weights") (codes "criterion_weights") ((codes "kind", word_leaf (codes "weights")) ∷ (codes "criterion_weights", list_node (map scalar_leaf (map weight_scalar ws))) ∷ [])
     (map (λ m. m.node) (map scalar_leaf (map weight_scalar ws))) (some-Scalar (codes "weights")) refl (some-List (map (λ m. m.node) (map scalar_leaf (map weight_scalar ws))))
 
-length-mapped : {X Y : Type 0} (f : X → Y) (xs : List X) → length (map f xs) ≡ length xs
-length-mapped f [] = refl
-length-mapped f (x ∷ xs) = let h = length-mapped f xs in omega (arith, h)
-
 by-weights-read : (count boundary : ℕ) (ws : List ℤ) → length ws ≡ count → All IsWeight ws → by_weights count boundary (map (λ w. scalar_node (weight_scalar w)) ws) ≡ Ok (Weights ws)
 unfolding by_weights
 by-weights-read count boundary ws long all =
     let ns : List Node = map (λ w. scalar_node (weight_scalar w)) ws in
-    let counted : (length ns == count) ≡ true = same-numbers (length ns) count (length-mapped (λ w. scalar_node (weight_scalar w)) ws ∙ long) in
+    let counted : (length ns == count) ≡ true = same-numbers (length ns) count (length-map ws (λ w. scalar_node (weight_scalar w)) ∙ long) in
     ap (λ b. require b (fault.Weights boundary) >>= λ _. weights_of (fault.Weights boundary) [] ns >>= λ xs. Ok (Weights xs)) counted
     ∙ ap (λ r. r >>= λ xs. Ok (Weights xs)) (weights-read (fault.Weights boundary) [] ws all)
   where
@@ -204,7 +194,7 @@ unfolding by_roots
 by-roots-read count boundary roots few all =
     let ms : List Measured = map (root_measured count) roots in
     let ns : List Node = map (λ m. m.node) ms in
-    let long : length ns ≡ length roots = length-mapped (λ (m : Measured). m.node) ms ∙ length-mapped (root_measured count) roots in
+    let long : length ns ≡ length roots = length-map ms (λ (m : Measured). m.node) ∙ length-map roots (root_measured count) in
     let counted : nat_le (length ns) (4 * 10 ^ 9) ≡ true = at_most (length ns) (omega (arith, long, all.0)) in
     ap (λ b. require b (fault.Roots boundary) >>= λ _. roots_of count (fault.Roots boundary) [] ns >>= λ xs. Ok (Roots xs)) counted
     ∙ ap (λ r. r >>= λ xs. Ok (Roots xs)) (roots-read count (fault.Roots boundary) [] roots few all.1)

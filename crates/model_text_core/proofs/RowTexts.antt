@@ -8,13 +8,9 @@ use Rattle.problem_core.specs.declared.criterion.Criterion.{Criterion}
 use Rattle.model_core.specs.Model.{IsThreshold}
 use Rattle.model_core.specs.declared.model.Profile.{Profile}
 use Rattle.model_core.proofs.Indices.{get_or-slice_get}
+use Rattle.written_core.proofs.PutLemmas.{drop_got}
 use Rattle.model_text_core.specs.ModelText.{HasUtf8Names}
 use Rattle.model_text_core.specs.Parts.{thresholds_text, accepted_text}
-use Rattle.model_text_core.proofs.FlowTexts.{drop_got}
-
--- nothing was appended, and there is nothing to append
-pub nothing-put : (old text : List ℕ) → text ≡ [] → old ≡ old ++ text
-nothing-put old text h = sym (append-nil old) ∙ ap (λ (t : List ℕ). old ++ t) (sym h)
 
 -- what holds is said of an accepted result
 pub on-ok : {T E : Type 0} (r : Result T E) (P : Type 0) → P → OnOk r P
@@ -36,12 +32,6 @@ got-threshold (x ∷ xs) (y ∷ ys) zero c p all h g =
     subst (λ z. All (IsThreshold c.scale) z.thresholds) same_row (subst (λ z. All (IsThreshold z.scale) y.thresholds) same all.0)
 got-threshold (x ∷ xs) (y ∷ ys) (suc i) c p all h g = got-threshold xs ys i c p all.1 h g
 
--- one more criterion whose names are UTF-8
+-- the names of a criterion are UTF-8
 abbrev pub IsUtf8Criterion : Criterion → Type 0
 IsUtf8Criterion c = HasUtf8Names c.scale
-
-pub utf8-more : (criteria : List Criterion) (i : ℕ) (c : Criterion) → All IsUtf8Criterion (take i criteria) → i < length criteria → slice_get criteria i ≡ Some c → HasUtf8Names c.scale
-    → All IsUtf8Criterion (take (i + 1) criteria)
-utf8-more criteria i c before within there good =
-    let more : take (i + 1) criteria ≡ take i criteria ++ c ∷ [] = take_more criteria i c within ∙ ap (λ (x : Criterion). take i criteria ++ x ∷ []) (get_or-slice_get criteria i c c there) in
-    subst (All IsUtf8Criterion) (sym more) (All-push IsUtf8Criterion (take i criteria) c before good)

@@ -3,7 +3,7 @@ use Rattle.std.proofs.Common.{◌≡◌, ℕ, ◌+◌, ◌<◌, ◌≤◌, Bool,
 use Rattle.std.specs.Prelude.{◌&&◌}
 use Rattle.std.proofs.lemmas.List.{drop_all}
 use Rattle.model_text_core.specs.ModelText.{is_same, all_same}
-use Rattle.model_text_core.proofs.FlowTexts.{drop_here}
+use Rattle.model_text_core.proofs.PutFacts.{drop_here}
 
 module _ (vs ws : List ℤ) (i : ℕ) where
   same-at : (v w : ℤ) → i < length vs → v ≡ get_or vs i v → i < length ws → w ≡ get_or ws i w

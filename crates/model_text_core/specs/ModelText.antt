@@ -1,5 +1,7 @@
 -- The text of a model: its outline, whose lines are written.
-use Rattle.std.specs.Prelude.{◌≡◌, ◌≤◌, All, Option, None, Some, Ok, Bool, true, false, ◌&&◌, ℕ, zero, suc, ◌+◌, ◌/◌, ◌%◌, ◌==◌, ℤ, pos, negsuc, unsigned_abs, decimal, if◌then◌else◌, List, [], ◌∷◌, length, map, codes}
+use Rattle.std.specs.Prelude.{◌≡◌, ◌≤◌, All, Option, None, Some, Ok, Bool, true, false, ◌&&◌, ℕ, zero, suc, ◌+◌, ◌/◌}
+use Rattle.std.specs.Prelude.{◌%◌, ◌==◌, ℤ, pos, negsuc, unsigned_abs, decimal, if◌then◌else◌, List, [], ◌∷◌, length}
+use Rattle.std.specs.Prelude.{map, codes}
 use Rattle.std.specs.List.{list_all}
 use Rattle.std.specs.Str.{bytes_eq, IsUtf8}
 use Rattle.yaml_core.specs.declared.node.Node.{Node}
@@ -13,23 +15,12 @@ use Rattle.problem_core.specs.Problem.{ProblemValue}
 use Rattle.problem_core.specs.declared.criterion.Criterion.{Criterion}
 use Rattle.problem_core.specs.declared.criterion.Scale.{Scale}
 use Rattle.problem_core.specs.declared.criterion.Scale.TheVariants.{Rising, Falling, Named}
-use Rattle.written_core.specs.Document.{Scalar, Word, Text, One, Flow, Same, document_text}
-use Rattle.written_core.specs.Outline.{Outline, Leaf, End, Under, Dashed, Anchored, outline_lines}
+use Rattle.written_core.specs.Document.{Scalar, Word, Text, Flow, Same, document_text}
+use Rattle.written_core.specs.Outline.{Outline, Leaf, End, Under, Dashed, Anchored, word, listed, outline_lines}
 use Rattle.model_core.specs.declared.model.Coalitions.{Coalitions}
 use Rattle.model_core.specs.declared.model.Coalitions.TheVariants.{Weights, Roots}
 use Rattle.model_core.specs.declared.model.Profile.{Profile}
 use Rattle.model_core.specs.Model.{ModelValue}
-
-abbrev pub word : List ℕ → Outline
-word t = Leaf (One (Word t))
-
--- items, or an empty flow list if there are none
-abbrev pub listed : Outline → Outline
-listed End = Leaf (Flow [])
-listed (Leaf v) = Leaf v
-listed (Under key first more) = Under key first more
-listed (Dashed first more) = Dashed first more
-listed (Anchored name o) = Anchored name o
 
 -- ---- thresholds
 
@@ -53,7 +44,8 @@ thresholds_outline scale ts =
 abbrev pub accepted_outline : List Criterion → List Profile → Outline
 accepted_outline [] rows = End
 accepted_outline (criterion ∷ criteria) [] = End
-accepted_outline (criterion ∷ criteria) (row ∷ rows) = Dashed (thresholds_outline criterion.scale row.thresholds) (accepted_outline criteria rows)
+accepted_outline (criterion ∷ criteria) (row ∷ rows) =
+    Dashed (thresholds_outline criterion.scale row.thresholds) (accepted_outline criteria rows)
 
 -- ---- roots
 

@@ -4,39 +4,29 @@ use Rattle.std.specs.List.{list_all, flat_map}
 use Rattle.problem_core.specs.Problem.{ProblemValue}
 use Rattle.problem_core.specs.declared.criterion.Criterion.{Criterion}
 use Rattle.problem_core.specs.declared.criterion.Scale.{Scale}
-use Rattle.written_core.specs.Document.{Scalar, line_feed, scalar_text, more_text, flow_text}
+use Rattle.written_core.specs.Document.{flow_text}
+use Rattle.written_core.specs.Parts.{row, comma}
 use Rattle.model_core.specs.Model.{ModelValue}
 use Rattle.model_core.specs.declared.model.Coalitions.{Coalitions}
 use Rattle.model_core.specs.declared.model.Coalitions.TheVariants.{Weights, Roots}
 use Rattle.model_core.specs.declared.model.Profile.{Profile}
 use Rattle.model_text_core.specs.ModelText.{threshold_scalar, root_scalars, weight_scalar, are_same}
 
--- what separates the item at a place of a flow list from those before it
-abbrev pub comma : ℕ → List ℕ
-comma place = if place == 0 then [] else codes ", "
-
--- the items of a flow list from the one at a place on, and the closing bracket
-abbrev pub left_text : ℕ → List Scalar → List ℕ
-left_text place [] = codes "]"
-left_text place (s ∷ ss) = comma place ++ (scalar_text s ++ more_text ss)
-
 -- a place behind so many others, if the least bit of the rest of a mask is set
 abbrev pub place_text : ℕ → ℕ → ℕ → List ℕ
 place_text written place rest = if rest % 2 == 1 then comma written ++ decimal place else []
 
--- a row of text and what follows it
-abbrev pub row : List ℕ → List ℕ → List ℕ
-row text more = text ++ line_feed ∷ more
-
 abbrev pub thresholds_text : Scale → List (Option ℤ) → List ℕ
 thresholds_text scale ts =
-    row (codes "  - kind: thresholds") (codes "    thresholds: " ++ row (flow_text (map (threshold_scalar scale) ts)) [])
+    row (codes "  - kind: thresholds")
+    (codes "    thresholds: " ++ row (flow_text (map (threshold_scalar scale) ts)) [])
 
 -- the rows of each criterion
 abbrev pub accepted_text : List Criterion → List Profile → List ℕ
 accepted_text [] rows = []
 accepted_text (criterion ∷ criteria) [] = []
-accepted_text (criterion ∷ criteria) (p ∷ rows) = thresholds_text criterion.scale p.thresholds ++ accepted_text criteria rows
+accepted_text (criterion ∷ criteria) (p ∷ rows) =
+    thresholds_text criterion.scale p.thresholds ++ accepted_text criteria rows
 
 abbrev pub root_text : ℕ → ℕ → List ℕ
 root_text count root = codes "      - " ++ row (flow_text (root_scalars count root)) []

@@ -5,11 +5,11 @@ ghost use Rattle.model_core.specs.Model.{Belongs, IsThreshold};
 ghost use Rattle.model_text_core.specs.ModelText.{HasUtf8Names};
 ghost use Rattle.model_text_core.specs.Parts.{accepted_text, thresholds_text};
 
-use crate::put::put_text;
 use crate::thresholds::put_thresholds;
 use model_core::{Model, Profile};
 use problem_core::{Criterion, Problem, Scale};
 use std::alloc::AllocError;
+use written_core::put_text;
 
 /// The number of names of a scale; 0 for a scale of numbers.
 fn names_count(scale: &Scale) -> u32
@@ -29,13 +29,14 @@ fn put_criterion(
     out: &mut Vec<u8>,
 ) -> Result<(), AllocError>
     requires { All (IsThreshold criterion.now.scale) profile.now.thresholds }
-    ensures text { Puts out.old.items out.new.items result (thresholds_text criterion.now.scale profile.now.thresholds) }
+    ensures text { Puts out.old.items out.new.items result
+        (thresholds_text criterion.now.scale profile.now.thresholds) }
     ensures names { HasUtf8Names criterion.now.scale }
 {
     let _names = names_count(&criterion.scale);
-    put_text(b"  - kind: thresholds\n    thresholds: ", out)?;
+    put_text("  - kind: thresholds\n    thresholds: ", out)?;
     put_thresholds(criterion, profile.thresholds.as_slice(), out)?;
-    put_text(b"\n", out)
+    put_text("\n", out)
 }
 
 /// Appends the lines of each criterion.

@@ -1,23 +1,24 @@
 //! Writing coalitions.
 ghost use Rattle.std.specs.Prelude.{◌≡◌, ◌≤◌, ◌<◌, length};
 ghost use Rattle.lists_core.specs.Puts.{Puts};
-ghost use Rattle.model_text_core.specs.Parts.{anchored_text, by_roots_text, by_weights_text, coalition_text, coalitions_text, each_text, item_text, same_text};
+ghost use Rattle.model_text_core.specs.Parts.{anchored_text, by_roots_text, by_weights_text, coalition_text};
+ghost use Rattle.model_text_core.specs.Parts.{coalitions_text, each_text, item_text, same_text};
 
-use crate::put::put_text;
 use crate::roots::put_upset;
 use crate::same::are_all_same;
 use crate::weights::put_weights;
 use fixed_core::Fixed;
 use model_core::Coalitions;
 use std::alloc::AllocError;
+use written_core::put_text;
 
 /// Appends the lines of weights, from their kind on.
 fn put_by_weights(weights: &[Fixed], out: &mut Vec<u8>) -> Result<(), AllocError>
     ensures { Puts out.old.items out.new.items result (by_weights_text weights.now) }
 {
-    put_text(b"kind: weights\n    criterion_weights: ", out)?;
+    put_text("kind: weights\n    criterion_weights: ", out)?;
     put_weights(weights, out)?;
-    put_text(b"\n", out)
+    put_text("\n", out)
 }
 
 /// Appends the lines of roots, from their kind on.
@@ -25,7 +26,7 @@ fn put_by_roots(count: u32, roots: &[u32], out: &mut Vec<u8>) -> Result<(), Allo
     requires { count ≤ 32 }
     ensures { Puts out.old.items out.new.items result (by_roots_text count roots.now) }
 {
-    put_text(b"kind: roots\n", out)?;
+    put_text("kind: roots\n", out)?;
     put_upset(count, roots, out)
 }
 
@@ -45,7 +46,7 @@ fn put_item(count: u32, coalitions: &Coalitions, out: &mut Vec<u8>) -> Result<()
     requires { count ≤ 32 }
     ensures { Puts out.old.items out.new.items result (item_text count coalitions.now) }
 {
-    put_text(b"  - ", out)?;
+    put_text("  - ", out)?;
     put_coalition(count, coalitions, out)
 }
 
@@ -65,7 +66,7 @@ fn put_aliases(rows: &[Coalitions], out: &mut Vec<u8>) -> Result<(), AllocError>
     ensures { Puts out.old.items out.new.items result (same_text rows.now) }
 {
     for _ in rows {
-        put_text(b"  - *coalitions\n", out)?;
+        put_text("  - *coalitions\n", out)?;
     }
     Ok(())
 }
@@ -80,7 +81,7 @@ fn put_anchored(
     requires { count ≤ 32 }
     ensures { Puts out.old.items out.new.items result (anchored_text count first.now others.now) }
 {
-    put_text(b"  - &coalitions\n    ", out)?;
+    put_text("  - &coalitions\n    ", out)?;
     put_coalition(count, first, out)?;
     put_aliases(others, out)
 }

@@ -4,7 +4,6 @@
 mod accepted;
 mod coalitions;
 mod places;
-mod put;
 mod roots;
 mod same;
 mod thresholds;
@@ -29,8 +28,8 @@ pub fn written_model_reads_back()
         → All (λ criterion. HasUtf8Names criterion.scale) problem.criteria → Belongs problem m → ReadsBack problem m }
 {}
 
-/// A law, with no code: a model with at most 65,536 roots for each boundary has a text of fewer nodes than the most that
-/// reading allows. If the text has a tree that reads as the model, its bytes read as that model.
+/// A law, with no code: a model with at most 65,536 roots for each boundary has a text of fewer nodes than the most
+/// that reading allows. If the text has a tree that reads as the model, its bytes read as that model.
 pub fn text_of_few_roots_reads_back()
     ensures { (problem : ProblemValue) (m : ModelValue) → IsProblem problem → Belongs problem m → HaveFewRoots m
         → ReadsBack problem m → ReadsWhole problem m }
@@ -38,6 +37,7 @@ pub fn text_of_few_roots_reads_back()
 
 /// A law, with no code: so does the text of a learned model, whose roots are few.
 pub fn text_of_learned_model_reads_back()
-    ensures { (problem : ProblemValue) (m : ModelValue) (examples : List Example) → IsProblem problem → Belongs problem m
+    ensures { (problem : ProblemValue) (m : ModelValue) (examples : List Example) → IsProblem problem
+        → Belongs problem m
         → Learns examples (rule_of problem m) → ReadsBack problem m → ReadsWhole problem m }
 {}

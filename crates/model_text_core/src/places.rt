@@ -3,18 +3,11 @@ ghost use Rattle.std.specs.Prelude.{◌≡◌, ◌+◌, ◌%◌, ◌++◌, ◌<�
 ghost use Rattle.lists_core.specs.Puts.{Puts};
 ghost use Rattle.written_core.specs.Document.{flow_text};
 ghost use Rattle.model_text_core.specs.ModelText.{root_scalars};
-ghost use Rattle.model_text_core.specs.Parts.{comma, place_text};
+ghost use Rattle.written_core.specs.Parts.{comma};
+ghost use Rattle.model_text_core.specs.Parts.{place_text};
 
-use crate::put::{put_comma, put_text};
-use itoa::Buffer;
 use std::alloc::AllocError;
-
-/// Appends a number.
-fn put_number(number: u32, out: &mut Vec<u8>) -> Result<(), AllocError>
-    ensures { Puts out.old.items out.new.items result (decimal number) }
-{
-    put_text(Buffer::new().format(number).as_bytes(), out)
-}
+use written_core::{put_comma, put_number, put_text};
 
 /// Appends a place, which is so many places behind the first of a flow list.
 fn put_place(written: usize, place: u32, out: &mut Vec<u8>) -> Result<(), AllocError>
@@ -43,12 +36,12 @@ pub fn put_places(count: u32, set: u32, out: &mut Vec<u8>) -> Result<(), AllocEr
     requires { count ≤ 32 }
     ensures { Puts out.old.items out.new.items result (flow_text (root_scalars count set)) }
 {
-    put_text(b"[", out)?;
+    put_text("[", out)?;
     let mut written = 0;
     let mut rest = set;
     for place in 0..count {
         written = put_member(written, place, rest, out)?;
         rest /= 2;
     }
-    put_text(b"]", out)
+    put_text("]", out)
 }

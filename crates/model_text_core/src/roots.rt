@@ -4,17 +4,17 @@ ghost use Rattle.lists_core.specs.Puts.{Puts};
 ghost use Rattle.model_text_core.specs.Parts.{root_text, roots_text, upset_text};
 
 use crate::places::put_places;
-use crate::put::put_text;
 use std::alloc::AllocError;
+use written_core::put_text;
 
 /// Appends the line of a root.
 fn put_root(count: u32, root: u32, out: &mut Vec<u8>) -> Result<(), AllocError>
     requires { count ≤ 32 }
     ensures { Puts out.old.items out.new.items result (root_text count root) }
 {
-    put_text(b"      - ", out)?;
+    put_text("      - ", out)?;
     put_places(count, root, out)?;
-    put_text(b"\n", out)
+    put_text("\n", out)
 }
 
 /// Appends the line of each root.
@@ -35,8 +35,8 @@ pub fn put_upset(count: u32, roots: &[u32], out: &mut Vec<u8>) -> Result<(), All
 {
     let rows = roots.len();
     if rows == 0 {
-        return put_text(b"    upset_roots: []\n", out);
+        return put_text("    upset_roots: []\n", out);
     }
-    put_text(b"    upset_roots:\n", out)?;
+    put_text("    upset_roots:\n", out)?;
     put_roots(count, roots, out)
 }

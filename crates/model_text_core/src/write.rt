@@ -6,10 +6,10 @@ ghost use Rattle.model_text_core.specs.ModelText.{model_text, ReadsBack};
 
 use crate::accepted::put_accepted;
 use crate::coalitions::put_coalitions;
-use crate::put::put_text;
 use model_core::Model;
 use problem_core::Problem;
 use std::alloc::AllocError;
+use written_core::put_text;
 
 /// Appends the text of a model that belongs to the problem. Read again for the problem, that text is the same model if
 /// its tree has at most 16,777,216 nodes. Out of memory, it leaves a prefix of the text.
@@ -21,10 +21,10 @@ pub fn write_model(problem: &Problem, model: &Model, out: &mut Vec<u8>) -> Resul
     let count = problem.criteria_count();
     let _categories = problem.categories_count();
     put_text(
-        b"kind: ncs-classification-model\nformat_version: 1\naccepted_values:\n",
+        "kind: ncs-classification-model\nformat_version: 1\naccepted_values:\n",
         out,
     )?;
     put_accepted(problem, model, out)?;
-    put_text(b"sufficient_coalitions:\n", out)?;
+    put_text("sufficient_coalitions:\n", out)?;
     put_coalitions(count, model.all_coalitions(), out)
 }

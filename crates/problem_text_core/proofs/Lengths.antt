@@ -16,8 +16,9 @@ use Rattle.problem_core.specs.declared.criterion.Bounds.{Bounds}
 use Rattle.problem_core.specs.declared.criterion.Criterion.{Criterion}
 use Rattle.problem_core.specs.declared.criterion.Scale.{Scale}
 use Rattle.problem_core.specs.declared.criterion.Scale.TheVariants.{Rising, Falling, Named}
+use Rattle.written_core.specs.Parts.{row}
 use Rattle.problem_text_core.specs.ProblemText.{type_word, problem_text, AreNumbers, IsKeptScale, IsKeptCriterion, IsKept}
-use Rattle.problem_text_core.specs.Parts.{row, key_row, bounds_text, numbers_text, flow_names, names_text, scale_text, name_row, criterion_text, criteria_text, categories_text, head_text, text_by_parts}
+use Rattle.problem_text_core.specs.Parts.{key_row, bounds_text, numbers_text, flow_names, names_text, scale_text, name_row, criterion_text, criteria_text, categories_text, head_text, text_by_parts}
 use Rattle.problem_text_core.proofs.PartTexts.{problem_text-parts}
 
 -- ---- numbers

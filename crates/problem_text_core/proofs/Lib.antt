@@ -1,12 +1,9 @@
 pub mod Meaning
-pub mod Words
-pub mod Lookups
 pub mod NameReads
 pub mod ScaleReads
 pub mod ProblemReads
 pub mod Sizes
 pub mod Lengths
 pub mod PartTexts
-pub mod PutFacts
 pub mod ProblemText
 pub mod Examples

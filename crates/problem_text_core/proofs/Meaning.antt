@@ -12,15 +12,10 @@ use Rattle.problem_core.specs.declared.criterion.Scale.{Scale}
 use Rattle.problem_core.specs.declared.criterion.Scale.TheVariants.{Rising, Falling, Named}
 use Rattle.written_core.specs.Document.{Word, Text}
 use Rattle.written_core.specs.Outline.{Outline, Under, Dashed, End, are_items, scalar_leaf, entries_by, items_by, block_of, meaning, outline_measured}
+use Rattle.written_core.proofs.Lists.{word_leaf, quoted_leaf, listed-meant, item-then}
 use Rattle.problem_text_core.specs.ProblemText.{type_word, criterion_outline, criteria_outline, category_outline, categories_outline, problem_outline}
 
 -- ---- the nodes
-
-abbrev pub word_leaf : List ℕ → Measured
-word_leaf t = scalar_leaf (Word t)
-
-abbrev pub quoted_leaf : List ℕ → Measured
-quoted_leaf t = scalar_leaf (Text t)
 
 abbrev pub number_entries : List ℕ → Bounds → List Entry
 number_entries direction bounds =
@@ -58,12 +53,6 @@ problem_measured problem = map_node (problem_entries problem)
 
 -- ---- lists
 
--- one more item
-item-then : (below : Outline → Reading Measured) (before : List Measured) (first more : Outline) (m : Measured) (ms : List Measured) (names : Names) → below first names ≡ Some (m, names)
-    → items_by below (before ++ m ∷ []) more names ≡ Some ((before ++ m ∷ []) ++ ms, names) → items_by below before (Dashed first more) names ≡ Some (before ++ m ∷ ms, names)
-item-then below before first more m ms names e f =
-    ap (and_then (λ n. items_by below (before ++ n ∷ []) more)) e ∙ f ∙ ap (λ (ns : List Measured). Some (ns, names)) (append_assoc before (m ∷ []) ms)
-
 criterion-meant : (d : ℕ) (c : Criterion) (names : Names) → meaning (suc (suc (suc d))) (criterion_outline c) names ≡ Some (criterion_measured c, names)
 unfolding meaning
 criterion-meant d c names = by_scale c.scale
@@ -78,7 +67,7 @@ criteria-meant : (d : ℕ) (before : List Measured) (cs : List Criterion) (names
     → items_by (meaning (suc (suc (suc d)))) before (criteria_outline cs) names ≡ Some (before ++ map criterion_measured cs, names)
 criteria-meant d before [] names = ap (λ (ns : List Measured). Some (ns, names)) (sym (append-nil before))
 criteria-meant d before (c ∷ cs) names =
-    item-then (meaning (suc (suc (suc d)))) before (criterion_outline c) (criteria_outline cs) (criterion_measured c) (map criterion_measured cs) names
+    item-then (meaning (suc (suc (suc d)))) before (criterion_outline c) (criteria_outline cs) (criterion_measured c) (map criterion_measured cs) names names names
     (criterion-meant d c names) (criteria-meant d (before ++ criterion_measured c ∷ []) cs names)
 
 category-meant : (d : ℕ) (name : List ℕ) (names : Names) → meaning (suc (suc (suc d))) (category_outline name) names ≡ Some (category_measured name, names)
@@ -89,7 +78,7 @@ categories-meant : (d : ℕ) (before : List Measured) (cs : List (List ℕ)) (na
     → items_by (meaning (suc (suc (suc d)))) before (categories_outline cs) names ≡ Some (before ++ map category_measured cs, names)
 categories-meant d before [] names = ap (λ (ns : List Measured). Some (ns, names)) (sym (append-nil before))
 categories-meant d before (c ∷ cs) names =
-    item-then (meaning (suc (suc (suc d)))) before (category_outline c) (categories_outline cs) (category_measured c) (map category_measured cs) names
+    item-then (meaning (suc (suc (suc d)))) before (category_outline c) (categories_outline cs) (category_measured c) (map category_measured cs) names names names
     (category-meant d c names) (categories-meant d (before ++ category_measured c ∷ []) cs names)
 
 pub criteria-items : (cs : List Criterion) → are_items (criteria_outline cs) ≡ true
@@ -100,21 +89,15 @@ pub categories-items : (cs : List (List ℕ)) → are_items (categories_outline 
 categories-items [] = refl
 categories-items (c ∷ cs) = refl
 
--- a list of one item or more
-listed-meant : (d : ℕ) (first more : Outline) (ms : List Measured) (names : Names) → items_by (meaning d) [] (Dashed first more) names ≡ Some (ms, names)
-    → meaning (suc d) (Dashed first more) names ≡ Some (list_node ms, names)
-unfolding meaning
-listed-meant d first more ms names e = ap (and_then (λ ns. gives (list_node ns))) e
-
 criteria-list : (d : ℕ) (c : Criterion) (cs : List Criterion) (names : Names)
     → meaning (suc (suc (suc (suc d)))) (criteria_outline (c ∷ cs)) names ≡ Some (list_node (map criterion_measured (c ∷ cs)), names)
 criteria-list d c cs names =
-    listed-meant (suc (suc (suc d))) (criterion_outline c) (criteria_outline cs) (map criterion_measured (c ∷ cs)) names (criteria-meant d [] (c ∷ cs) names)
+    listed-meant (suc (suc d)) (criteria_outline (c ∷ cs)) (map criterion_measured (c ∷ cs)) names names refl (criteria-meant d [] (c ∷ cs) names)
 
 categories-list : (d : ℕ) (c : List ℕ) (cs : List (List ℕ)) (names : Names)
     → meaning (suc (suc (suc (suc d)))) (categories_outline (c ∷ cs)) names ≡ Some (list_node (map category_measured (c ∷ cs)), names)
 categories-list d c cs names =
-    listed-meant (suc (suc (suc d))) (category_outline c) (categories_outline cs) (map category_measured (c ∷ cs)) names (categories-meant d [] (c ∷ cs) names)
+    listed-meant (suc (suc d)) (categories_outline (c ∷ cs)) (map category_measured (c ∷ cs)) names names refl (categories-meant d [] (c ∷ cs) names)
 
 -- ---- the problem
 

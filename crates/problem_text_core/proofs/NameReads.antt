@@ -12,8 +12,9 @@ use Rattle.problem_core.specs.Name.{is_good_name, is_among}
 use Rattle.problem_core.specs.ReadNames.{text_in, fault_at, new_name, names_of}
 use Rattle.problem_core.specs.declared.read_names.NameList.{NameList}
 use Rattle.problem_core.specs.declared.read_names.NameList.TheVariants.{Scale, Categories}
-use Rattle.problem_text_core.proofs.Lookups.{text-Quoted, some-Quoted, quoted-under}
-use Rattle.problem_text_core.proofs.Meaning.{quoted_leaf, category_measured}
+use Rattle.written_core.proofs.Lookups.{text-Quoted, some-Quoted, quoted-under}
+use Rattle.written_core.proofs.Lists.{quoted_leaf}
+use Rattle.problem_text_core.proofs.Meaning.{category_measured}
 
 -- a text that differs from another differs the other way round
 differs-back : (a b : List ℕ) → bytes_eq a b ≡ false → bytes_eq b a ≡ false
@@ -40,7 +41,7 @@ new-name earlier name good new = by_tests (is_good_name name) (is_among earlier 
     by_tests : (g a : Bool) → g ≡ true → a ≡ false → (if g && not a then Some name else None) ≡ Some name
     by_tests g a eg ea = rw (eg, ea) refl
 
--- names behind earlier ones, where each item is read as its name
+-- names behind earlier ones, if each item is read as its name
 names-read : (list : NameList) (item : List ℕ → Node) → ((name : List ℕ) → text_in list (item name) ≡ Some name) → (earlier names : List (List ℕ)) → list_all is_good_name names ≡ true → IsDistinct bytes_eq (earlier ++ names)
     → names_of list earlier (map item names) ≡ Ok (earlier ++ names)
 unfolding names_of

@@ -9,14 +9,10 @@ use Rattle.problem_core.specs.declared.criterion.Bounds.{Bounds}
 use Rattle.problem_core.specs.declared.criterion.Criterion.{Criterion}
 use Rattle.problem_core.specs.declared.criterion.Scale.{Scale}
 use Rattle.problem_core.specs.declared.criterion.Scale.TheVariants.{Rising, Falling, Named}
+use Rattle.written_core.specs.Parts.{row}
+use Rattle.written_core.proofs.FlowTexts.{document_text-append}
 use Rattle.problem_text_core.specs.ProblemText.{type_word, numbers_outline, scale_outline, criteria_outline, categories_outline, problem_text}
-use Rattle.problem_text_core.specs.Parts.{row, key_row, bounds_text, numbers_text, flow_names, scale_text, criteria_text, categories_text, text_by_parts}
-
--- the text of lines and of more lines
-document_text-append : (ls ms : List DocLine) → document_text (ls ++ ms) ≡ document_text ls ++ document_text ms
-document_text-append [] ms = refl
-document_text-append (l ∷ ls) ms =
-    ap (λ (t : List ℕ). line_text l ++ 10 ∷ t) (document_text-append ls ms) ∙ sym (append_assoc (line_text l) (10 ∷ document_text ls) (document_text ms))
+use Rattle.problem_text_core.specs.Parts.{key_row, bounds_text, numbers_text, flow_names, scale_text, criteria_text, categories_text, text_by_parts}
 
 -- ---- rows
 

@@ -8,6 +8,7 @@ use Rattle.std.proofs.lemmas.Bool.Decides.{nat_tests}
 use Rattle.std.proofs.lemmas.List.{length-map, map-append}
 use Rattle.std.proofs.lemmas.List.Elements.{All-head, All-tail}
 use Rattle.yaml_core.specs.declared.node.Node.{Node}
+use Rattle.yaml_core.specs.declared.node.Node.TheVariants as node
 use Rattle.yaml_core.specs.Measured.{Entry, map_node, pair_of}
 use Rattle.yaml_core.proofs.MeasureLemmas.{map-map}
 use Rattle.lists_core.specs.Answers.{◌>>=◌, require}
@@ -17,13 +18,13 @@ use Rattle.problem_core.specs.Problem.{ProblemValue, IsProblem, criterion_names,
 use Rattle.problem_core.specs.ReadNames.{names_of}
 use Rattle.problem_core.specs.ReadProblem.{header_of, is_new_criterion_name, criterion_of, criteria_after, criteria_of, categories_of, problem_of}
 use Rattle.problem_core.specs.ReadScale.{scale_of}
-use Rattle.problem_core.specs.Tree.{has_count, items_under, says}
+use Rattle.problem_core.specs.Tree.{has_count, items_under, says, is_map_in, is_text}
 use Rattle.problem_core.specs.declared.criterion.Criterion.{Criterion}
 use Rattle.problem_core.specs.declared.fault.ProblemFault.{ProblemFault}
 use Rattle.problem_core.specs.declared.fault.ProblemFault.TheVariants as fault
 use Rattle.problem_core.specs.declared.read_names.NameList.TheVariants.{Categories}
+use Rattle.written_core.proofs.Lookups.{some-Scalar, some-Quoted, some-List, quoted-under, word-under, list-under}
 use Rattle.problem_text_core.specs.ProblemText.{IsKeptCriterion, IsKept}
-use Rattle.problem_text_core.proofs.Lookups.{some-Scalar, some-Quoted, some-List, map-Map, quoted-under, says-word, items-list}
 use Rattle.problem_text_core.proofs.Meaning.{criterion_entries, criterion_measured, category_measured, problem_entries, problem_measured}
 use Rattle.problem_text_core.proofs.NameReads.{distinct-new, category-names-read}
 use Rattle.problem_text_core.proofs.ScaleReads.{scale-read}
@@ -82,20 +83,20 @@ module _ (p : ProblemValue) (whole : IsProblem p) (kept : IsKept p) where
   header-read : header_of tree ≡ Ok tt
   unfolding header_of
   header-read =
-      ap (λ b. require b fault.NotAMap >>= λ _. require (says (codes "kind") (codes "classification-problem") tree) fault.Kind >>= λ _. require (says (codes "format_version") (codes "1") tree) fault.Version) (map-Map (map pair_of es))
+      ap (λ b. require b fault.NotAMap >>= λ _. require (says (codes "kind") (codes "classification-problem") tree) fault.Kind >>= λ _. require (says (codes "format_version") (codes "1") tree) fault.Version) (ap is_map_in (node.outs-Map (map pair_of es)))
       ∙ ap (λ b. require b fault.Kind >>= λ _. require (says (codes "format_version") (codes "1") tree) fault.Version)
-      (says-word (codes "kind") (codes "classification-problem") es (codes "classification-problem") (some-Scalar (codes "classification-problem")))
-      ∙ ap (λ b. require b fault.Version) (says-word (codes "format_version") (codes "1") es (codes "1") (some-Scalar (codes "1")))
+      (ap (is_text (codes "classification-problem")) (word-under (codes "kind") es (codes "classification-problem") (some-Scalar (codes "classification-problem"))))
+      ∙ ap (λ b. require b fault.Version) (ap (is_text (codes "1")) (word-under (codes "format_version") es (codes "1") (some-Scalar (codes "1"))))
 
   criteria-found : items_under (codes "criteria") tree ≡ Some (map criterion_node p.criteria)
   criteria-found =
       let ns = map (λ m. m.node) (map criterion_measured p.criteria) in
-      items-list (codes "criteria") es ns (some-List ns) ∙ ap (λ (xs : List Node). Some xs) (map-map (λ m. m.node) criterion_measured p.criteria)
+      list-under (codes "criteria") es ns (some-List ns) ∙ ap (λ (xs : List Node). Some xs) (map-map (λ m. m.node) criterion_measured p.criteria)
 
   categories-found : items_under (codes "ordered_categories") tree ≡ Some (map (λ t. (category_measured t).node) p.categories)
   categories-found =
       let ns = map (λ m. m.node) (map category_measured p.categories) in
-      items-list (codes "ordered_categories") es ns (some-List ns) ∙ ap (λ (xs : List Node). Some xs) (map-map (λ m. m.node) category_measured p.categories)
+      list-under (codes "ordered_categories") es ns (some-List ns) ∙ ap (λ (xs : List Node). Some xs) (map-map (λ m. m.node) category_measured p.categories)
 
   criteria-read : criteria_of tree ≡ Ok p.criteria
   unfolding criteria_of

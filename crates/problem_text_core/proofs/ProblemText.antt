@@ -10,18 +10,18 @@ use Rattle.yaml_core.specs.Read.{within_limit}
 use Rattle.yaml_core.specs.Size.{node_count, most_nodes}
 use Rattle.written_core.specs.Document.{Text, AreGoodScalars, AreUtf8Scalars, is_word}
 use Rattle.written_core.specs.Outline.{are_entries, IsOutline, IsUtf8Outline}
-use Rattle.written_core.proofs.Utf8.{outline-reading}
+use Rattle.written_core.proofs.Utf8.{outline-reads-back}
 use Rattle.problem_core.specs.Problem.{ProblemValue, IsProblem}
 use Rattle.problem_core.specs.declared.criterion.Bounds.{Bounds}
 use Rattle.problem_core.specs.declared.criterion.Criterion.{Criterion}
 use Rattle.problem_core.specs.declared.criterion.Scale.{Scale}
 use Rattle.problem_core.specs.declared.criterion.Scale.TheVariants.{Rising, Falling, Named}
+use Rattle.written_core.proofs.Words.{spelling-word}
 use Rattle.problem_text_core.specs.ProblemText.{type_word, numbers_outline, scale_outline, criteria_outline, categories_outline, problem_outline, AreNumbers, IsKeptScale, IsKeptCriterion, IsKept, ReadsBack}
 use Rattle.problem_text_core.proofs.Lengths.{problem-short}
 use Rattle.problem_text_core.proofs.Meaning.{criteria-items, categories-items, problem_measured, problem-outlined}
 use Rattle.problem_text_core.proofs.ProblemReads.{problem-read}
 use Rattle.problem_text_core.proofs.Sizes.{problem-few}
-use Rattle.problem_text_core.proofs.Words.{spelling-word}
 
 -- ---- it may be written
 
@@ -88,12 +88,6 @@ problem-utf8 p kept = (tt, (tt, (criteria-utf8 p.criteria kept.criteria, (catego
 
 -- ---- read back
 
-within-few : (n : Node) → node_count n ≤ most_nodes → within_limit (Some n) ≡ Ok n
-within-few n h = let few : nat_le (node_count n) most_nodes ≡ true = at_most (node_count n) h in rw few refl
-  where
-    at_most : (k : ℕ) → k ≤ most_nodes → nat_le k most_nodes ≡ true
-    at_most k h = grind (arith, nat_tests)
-
 pub problem-reads-back : (p : ProblemValue) → IsProblem p → IsKept p → ReadsBack p
 problem-reads-back p whole kept =
     let o = problem_outline p in
@@ -103,6 +97,6 @@ problem-reads-back p whole kept =
       short = problem-short p whole kept;
       tree = tree;
       few = few;
-      of_bytes = outline-reading o (problem-good p kept) (problem-utf8 p kept) ∙ ap (λ (r : Option Measured). within_limit (option_map (λ x. x.node) r)) (problem-outlined p whole) ∙ within-few tree few;
+      of_bytes = outline-reads-back o (problem_measured p) (problem-good p kept) (problem-utf8 p kept) (problem-outlined p whole) few;
       of_tree = problem-read p whole kept;
     }

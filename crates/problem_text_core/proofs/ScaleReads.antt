@@ -29,11 +29,12 @@ use Rattle.problem_core.specs.declared.fault.ProblemFault.TheVariants as fault
 use Rattle.problem_core.specs.declared.read_names.NameList.TheVariants as list
 use Rattle.problem_core.specs.declared.read_scale.Direction.{Direction}
 use Rattle.problem_core.specs.declared.read_scale.Direction.TheVariants as direction
+use Rattle.written_core.proofs.Lookups.{found, text-Scalar, some-Scalar, some-List, value-Map, word-under, list-under}
+use Rattle.written_core.proofs.Lists.{quoted_leaf, nodes-scalars}
+use Rattle.written_core.proofs.Words.{spelling-word, number-node}
 use Rattle.problem_text_core.specs.ProblemText.{AreNames, AreNumbers, IsKeptScale}
-use Rattle.problem_text_core.proofs.Lookups.{found, text-Scalar, some-Scalar, some-List, value-Map, word-under, items-list}
-use Rattle.problem_text_core.proofs.Meaning.{quoted_leaf, number_entries, name_entries, criterion_measured}
+use Rattle.problem_text_core.proofs.Meaning.{number_entries, name_entries, criterion_measured}
 use Rattle.problem_text_core.proofs.NameReads.{scale-names-read}
-use Rattle.problem_text_core.proofs.Words.{spelled-node}
 
 -- the entries of a criterion with a scale of numbers, and of one with a scale of names
 abbrev number_item : List ℕ → List ℕ → Bounds → List Entry
@@ -46,7 +47,7 @@ name_item name names = (codes "name", quoted_leaf name) ∷ name_entries names
 
 -- a spelled number is no null
 spelled-some : (z : ℤ) → unsigned_abs z ≤ 10 ^ 36 → unless_null (plain_node (spelling z)) ≡ Some (node.Scalar (spelling z))
-spelled-some z small = ap unless_null (spelled-node z small) ∙ some-Scalar (spelling z)
+spelled-some z small = ap unless_null (number-node (spelling z) (spelling-word z small)) ∙ some-Scalar (spelling z)
 
 number-asked : (whole : Bool) (z : ℤ) → (not whole || is_whole z) ≡ true → number_if_whole whole z ≡ Some z
 number-asked whole z asked = by_tests whole (is_whole z) asked
@@ -117,14 +118,10 @@ numbers-read place name direction towards false least most word good small =
 
 -- ---- names
 
-quoted-nodes : (names : List (List ℕ)) → map (λ m. m.node) (map scalar_leaf (map Text names)) ≡ map (λ t. node.Quoted t) names
-quoted-nodes [] = refl
-quoted-nodes (n ∷ ns) = ap (λ (xs : List Node). node.Quoted n ∷ xs) (quoted-nodes ns)
-
 names-found : (name : List ℕ) (names : List (List ℕ)) → items_under (codes "ordered_values") (map_node (name_item name names)).node ≡ Some (map (λ t. node.Quoted t) names)
 names-found name names =
     let ns = map (λ m. m.node) (map scalar_leaf (map Text names)) in
-    items-list (codes "ordered_values") (name_item name names) ns (some-List ns) ∙ ap (λ (xs : List Node). Some xs) (quoted-nodes names)
+    list-under (codes "ordered_values") (name_item name names) ns (some-List ns) ∙ ap (λ (xs : List Node). Some xs) (nodes-scalars (λ t. Text t) names)
 
 named-read : (place : ℕ) (name : List ℕ) (names : List (List ℕ)) → is_scale (Named names) ≡ true → AreNames names → scale_of place (map_node (name_item name names)).node ≡ Ok (Named names)
 unfolding scale_of name_scale_of

@@ -3,16 +3,13 @@ use Rattle.std.proofs.Common.{◌≡◌, ℕ, ◌+◌, ◌*◌, ◌≤◌, Bool,
 use Rattle.std.specs.Prelude.{nat_le}
 use Rattle.std.specs.List.{list_all}
 use Rattle.std.proofs.lemmas.Bool.{and_parts, leb-true}
-use Rattle.std.proofs.lemmas.List.Sums.{sum_by-cons}
+use Rattle.std.proofs.lemmas.List.{length-map}
 use Rattle.fixed_core.specs.Spelling.{spelling}
 use Rattle.yaml_core.specs.Kept.{count_of}
-use Rattle.yaml_core.specs.Measured.{Measured, map_node}
+use Rattle.yaml_core.specs.Measured.{map_node}
 use Rattle.yaml_core.specs.Size.{node_count}
-use Rattle.yaml_core.specs.declared.node.Node.TheVariants as node
-use Rattle.yaml_core.specs.Tree.{is_null_word}
-use Rattle.yaml_core.proofs.MeasureLemmas.{count-Null, count-Scalar, count-Quoted, count-list, count-map}
-use Rattle.written_core.specs.Document.{Scalar, Word, Text}
-use Rattle.written_core.specs.Outline.{scalar_leaf, scalar_node}
+use Rattle.yaml_core.proofs.MeasureLemmas.{count-Quoted, count-list, count-map}
+use Rattle.written_core.specs.Document.{Word, Text}
 use Rattle.problem_core.specs.Criterion.{is_criterion, is_criterion_name, is_scale}
 use Rattle.problem_core.specs.Name.{is_good_name}
 use Rattle.problem_core.specs.Problem.{ProblemValue, IsProblem}
@@ -20,43 +17,26 @@ use Rattle.problem_core.specs.declared.criterion.Bounds.{Bounds}
 use Rattle.problem_core.specs.declared.criterion.Criterion.{Criterion}
 use Rattle.problem_core.specs.declared.criterion.Scale.{Scale}
 use Rattle.problem_core.specs.declared.criterion.Scale.TheVariants.{Rising, Falling, Named}
+use Rattle.written_core.proofs.Lists.{quoted_leaf, count-more, scalar-count, flow-count}
 use Rattle.problem_text_core.specs.ProblemText.{type_word}
-use Rattle.problem_text_core.proofs.Meaning.{number_entries, name_entries, quoted_leaf, criterion_measured, category_measured, problem_entries, problem_measured}
-
--- one node more
-count-more : (m : Measured) (ms : List Measured) → count_of (m ∷ ms) ≡ node_count m.node + count_of ms
-count-more m ms = sum_by-cons (λ n. n) (node_count m.node) (map (λ x. node_count x.node) ms)
-
--- a scalar is one node
-count-scalar : (s : Scalar) → node_count (scalar_node s) ≡ 1
-count-scalar (Text t) = count-Quoted t
-count-scalar (Word t) = by_test (is_null_word t)
-  where
-    by_test : (b : Bool) → node_count (if b then node.Null else node.Scalar t) ≡ 1
-    by_test true = count-Null
-    by_test false = count-Scalar t
-
-count-names : (names : List (List ℕ)) → count_of (map scalar_leaf (map Text names)) ≡ length names
-count-names [] = refl
-count-names (n ∷ ns) = let more = count-names ns in let one = count-Quoted n in omega (arith, count-more (scalar_leaf (Text n)) (map scalar_leaf (map Text ns)), more, one)
+use Rattle.problem_text_core.proofs.Meaning.{number_entries, name_entries, criterion_measured, category_measured, problem_entries, problem_measured}
 
 -- ---- criteria
 
 numbers-few : (name direction : List ℕ) (b : Bounds) → node_count (map_node ((codes "name", quoted_leaf name) ∷ number_entries direction b)).node ≤ 1004
 numbers-few name direction b =
     let all = count-map ((codes "name", quoted_leaf name) ∷ number_entries direction b) in
-    let t = count-scalar (Word (type_word b.whole)) in
-    let d = count-scalar (Word direction) in
-    let least = count-scalar (Word (spelling b.least)) in
-    let most = count-scalar (Word (spelling b.most)) in
+    let t = scalar-count (Word (type_word b.whole)) in
+    let d = scalar-count (Word direction) in
+    let least = scalar-count (Word (spelling b.least)) in
+    let most = scalar-count (Word (spelling b.most)) in
     omega (arith, all, count-Quoted name, t, d, least, most)
 
 names-few : (name : List ℕ) (names : List (List ℕ)) → length names ≤ 1000 → node_count (map_node ((codes "name", quoted_leaf name) ∷ name_entries names)).node ≤ 1004
 names-few name names few =
     let all = count-map ((codes "name", quoted_leaf name) ∷ name_entries names) in
-    let t = count-scalar (Word (codes "enumerated")) in
-    let list = count-list (map scalar_leaf (map Text names)) in
-    omega (arith, all, count-Quoted name, t, list, count-names names, few)
+    let t = scalar-count (Word (codes "enumerated")) in
+    omega (arith, all, count-Quoted name, t, flow-count (map Text names), length-map names (λ t. Text t), few)
 
 few-names : (names : List (List ℕ)) → is_scale (Named names) ≡ true → length names ≤ 1000
 few-names names good =
@@ -94,8 +74,8 @@ categories-two (n ∷ ns) = let one = category-two n in let more = categories-tw
 pub problem-few : (p : ProblemValue) → IsProblem p → node_count (problem_measured p).node ≤ 16777216
 problem-few p whole =
     let all = count-map (problem_entries p) in
-    let kind = count-scalar (Word (codes "classification-problem")) in
-    let version = count-scalar (Word (codes "1")) in
+    let kind = scalar-count (Word (codes "classification-problem")) in
+    let version = scalar-count (Word (codes "1")) in
     let criteria = count-list (map criterion_measured p.criteria) in
     let categories = count-list (map category_measured p.categories) in
     omega (arith, all, kind, version, criteria, categories, criteria-few p.criteria whole.good_criteria, categories-two p.categories, whole.few_criteria, whole.few_categories)

@@ -1,9 +1,10 @@
 -- The text of a problem part by part, as code appends it.
-use Rattle.std.specs.Prelude.{ℕ, ◌==◌, List, [], ◌∷◌, ◌++◌, map, codes, if◌then◌else◌}
+use Rattle.std.specs.Prelude.{ℕ, List, [], ◌++◌, map, codes}
 use Rattle.std.specs.List.{flat_map}
 use Rattle.fixed_core.specs.Spelling.{spelling}
 use Rattle.yaml_tokens.specs.Written.{quoted_text}
-use Rattle.written_core.specs.Document.{Scalar, Text, line_feed, scalar_text, more_text, flow_text}
+use Rattle.written_core.specs.Document.{Text, flow_text}
+use Rattle.written_core.specs.Parts.{row}
 use Rattle.problem_core.specs.Problem.{ProblemValue}
 use Rattle.problem_core.specs.declared.criterion.Bounds.{Bounds}
 use Rattle.problem_core.specs.declared.criterion.Criterion.{Criterion}
@@ -11,22 +12,9 @@ use Rattle.problem_core.specs.declared.criterion.Scale.{Scale}
 use Rattle.problem_core.specs.declared.criterion.Scale.TheVariants.{Rising, Falling, Named}
 use Rattle.problem_text_core.specs.ProblemText.{type_word}
 
--- a row of text and what follows it
-abbrev pub row : List ℕ → List ℕ → List ℕ
-row text more = text ++ line_feed ∷ more
-
--- a row with a key, as it stands with what is around it, and a value
+-- a row with a key, with what is around it, and a value
 abbrev pub key_row : List ℕ → List ℕ → List ℕ
 key_row key value = key ++ row value []
-
--- what separates the item at a place of a flow list from those before it
-abbrev pub comma : ℕ → List ℕ
-comma place = if place == 0 then [] else codes ", "
-
--- the items of a flow list from the one at a place on, and the closing bracket
-abbrev pub left_text : ℕ → List Scalar → List ℕ
-left_text place [] = codes "]"
-left_text place (s ∷ ss) = comma place ++ (scalar_text s ++ more_text ss)
 
 -- ---- scales
 

@@ -1,26 +1,20 @@
 -- The text of a problem: its outline, whose lines are written.
-use Rattle.std.specs.Prelude.{◌≡◌, ◌≤◌, ◌^◌, All, Ok, Bool, true, false, ℕ, unsigned_abs, List, [], ◌∷◌, length, map, codes}
+use Rattle.std.specs.Prelude.{◌≡◌, ◌≤◌, ◌^◌, All, Ok, Bool, true, false, ℕ, unsigned_abs, List, [], ◌∷◌, length, map}
+use Rattle.std.specs.Prelude.{codes}
 use Rattle.std.specs.List.{IsDistinct}
 use Rattle.std.specs.Str.{bytes_eq, IsUtf8}
 use Rattle.fixed_core.specs.Spelling.{spelling}
 use Rattle.yaml_core.specs.declared.node.Node.{Node}
 use Rattle.yaml_core.specs.Read.{reading}
 use Rattle.yaml_core.specs.Size.{node_count}
-use Rattle.written_core.specs.Document.{Word, Text, One, Flow, document_text}
-use Rattle.written_core.specs.Outline.{Outline, Leaf, End, Under, Dashed, outline_lines}
+use Rattle.written_core.specs.Document.{Text, Flow, document_text}
+use Rattle.written_core.specs.Outline.{Outline, Leaf, End, Under, Dashed, word, quoted, outline_lines}
 use Rattle.problem_core.specs.Problem.{ProblemValue}
 use Rattle.problem_core.specs.ReadProblem.{problem_of}
 use Rattle.problem_core.specs.declared.criterion.Bounds.{Bounds}
 use Rattle.problem_core.specs.declared.criterion.Criterion.{Criterion}
 use Rattle.problem_core.specs.declared.criterion.Scale.{Scale}
 use Rattle.problem_core.specs.declared.criterion.Scale.TheVariants.{Rising, Falling, Named}
-
--- a word as it is, and a text in double quotes
-abbrev pub word : List ℕ → Outline
-word t = Leaf (One (Word t))
-
-abbrev pub quoted : List ℕ → Outline
-quoted t = Leaf (One (Text t))
 
 -- ---- scales
 

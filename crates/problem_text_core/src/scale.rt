@@ -2,12 +2,14 @@
 ghost use Rattle.std.specs.Prelude.{◌≡◌, ◌++◌, OnOk};
 ghost use Rattle.lists_core.specs.Puts.{Puts};
 ghost use Rattle.yaml_tokens.specs.Written.{quoted_text};
-ghost use Rattle.problem_text_core.specs.Parts.{bounds_text, comma, flow_names, names_text, numbers_text, scale_text};
+ghost use Rattle.written_core.specs.Parts.{comma};
+ghost use Rattle.problem_text_core.specs.Parts.{bounds_text, flow_names, names_text, numbers_text, scale_text};
 ghost use Rattle.problem_text_core.specs.ProblemText.{type_word, AreNames, AreNumbers, IsKeptScale};
 
-use crate::put::{put_comma, put_number_line, put_text, put_word_line};
+use crate::put::{put_number_line, put_word_line};
 use problem_core::{Bounds, Names, Scale};
 use std::alloc::AllocError;
+use written_core::{put_comma, put_text};
 use yaml_core::put_quoted;
 
 /// The word for the type of a scale of numbers.
@@ -40,7 +42,7 @@ fn put_numbers(direction: &str, bounds: Bounds, out: &mut Vec<u8>) -> Result<(),
 fn put_name(place: u32, name: &str, out: &mut Vec<u8>) -> Result<(), AllocError>
     ensures { Puts out.old.items out.new.items result (comma place ++ quoted_text name.now) }
 {
-    put_comma(place, out)?;
+    put_comma(place as usize, out)?;
     put_quoted(name, out)
 }
 

@@ -4,9 +4,9 @@ ghost use Rattle.lists_core.specs.Puts.{Puts};
 ghost use Rattle.problem_text_core.specs.ProblemText.{problem_text, ReadsBack};
 
 use crate::criteria::{put_categories, put_criteria};
-use crate::put::put_text;
 use problem_core::Problem;
 use std::alloc::AllocError;
+use written_core::put_text;
 
 /// Appends the text of a problem. Read again, that text is the same problem. Out of memory, it leaves a prefix of the
 /// text.

@@ -6,8 +6,14 @@ use Rattle.encoding_rules.specs.Encodings.{IsNarrow, IsWide, IsLarge, HasFormula
 use Rattle.ranks_core.specs.declared.fault.EncodeFault.{EncodeFault}
 use Rattle.ranks_core.specs.declared.fault.EncodeFault.TheVariants.{Wide, TooLarge, NoMemory}
 
--- too many criteria, whatever the literals; else too many literals, with their number; else no memory for a formula that there is
+-- What a fault says: too many criteria, whatever the literals; else too many literals, with their number; else no
+-- memory, of which this is known.
+abbrev pub FaultGiven : Type 0 → Encoding → Task → EncodeFault → Type 0
+FaultGiven memory encoding task Wide = IsWide encoding task
+FaultGiven memory encoding task (TooLarge count) =
+    IsNarrow encoding task × IsLarge encoding task × (count ≡ literal_count_of encoding task)
+FaultGiven memory encoding task NoMemory = memory
+
+-- out of memory there is a formula
 abbrev pub FaultOf : Encoding → Task → EncodeFault → Type 0
-FaultOf encoding task Wide = IsWide encoding task
-FaultOf encoding task (TooLarge count) = IsNarrow encoding task × IsLarge encoding task × (count ≡ literal_count_of encoding task)
-FaultOf encoding task NoMemory = HasFormula encoding task
+FaultOf encoding task = FaultGiven (HasFormula encoding task) encoding task

@@ -9,7 +9,13 @@ use Rattle.encoding_rules.specs.Ranks.{ranked, rank}
 
 -- what is to be learned from examples of a problem
 abbrev pub task_of : ProblemValue → List Example → Task
-task_of problem examples = record { directions = map (λ criterion. direction_of criterion.scale) problem.criteria; categories = length problem.categories; examples = examples }
+task_of problem examples =
+    record {
+      directions = map (λ criterion. direction_of criterion.scale) problem.criteria;
+      categories = length
+          problem.categories;
+      examples = examples;
+    }
 
 -- ranks are seen as each criterion's ranked grades, and the places of the examples' grades among them
 pub record RanksValue : Type 0 where

@@ -25,5 +25,6 @@ pub fn fits_problem(problem: &Problem, examples: &Examples) -> bool
 
 /// A law, with no code: examples that belong to a problem fit it.
 pub fn examples_that_belong_fit()
-    ensures { (problem : ProblemValue) (examples : List Example) → BelongTo problem examples → IsTask (task_of problem examples) }
+    ensures { (problem : ProblemValue) (examples : List Example) → BelongTo problem examples
+        → IsTask (task_of problem examples) }
 {}

@@ -27,7 +27,8 @@ fn preference(scale: &Scale, x: Grade, y: Grade) -> Ordering
 /// The grades of the examples on a criterion, in the order of the examples.
 fn column(alloc: Global, examples: &Examples, i: u32) -> Result<Vec<Grade>, AllocError>
     requires { All (λ e. i < length e.grades) examples.now }
-    ensures grades { IfOk result (λ grades. grades.items ≡ map (grade_on i) examples.now) }
+    ensures grades { IfOk result
+        (λ grades. grades.items ≡ map (grade_on i) examples.now) }
     ensures few { IfOk result (λ grades. length grades.items ≤ 4000000000) }
 {
     let mut grades = Vec::new(alloc);
@@ -82,7 +83,8 @@ pub fn places_of(
     requires wide { All (λ e. i < length e.grades) examples.now }
     requires rises { AllPairs (λ x y. is_as_good (direction_of scale.now) x y ≡ false) ranked.now }
     requires few { length ranked.now ≤ 4000000000 }
-    ensures { IfOk result (λ places. places.items ≡ map (λ e. place_of (direction_of scale.now) ranked.now (grade_on i e)) examples.now) }
+    ensures { IfOk result (λ places. places.items
+        ≡ map (λ e. place_of (direction_of scale.now) ranked.now (grade_on i e)) examples.now) }
 {
     let mut places = Vec::new(alloc);
     for row in 0..examples.count() {

@@ -9,7 +9,8 @@ ghost use Rattle.sorting_rule.specs.Examples.{Example};
 ghost use Rattle.problem_core.specs.Problem.{ProblemValue};
 ghost use Rattle.model_core.specs.Model.{ModelValue};
 ghost use Rattle.model_text_core.specs.ModelText.{model_text};
-ghost use Rattle.rehearsal_core.specs.Rehearsed.{counts_text, restored_line, IsSummary, rehearsed_examples, rehearsed_problem};
+ghost use Rattle.rehearsal_core.specs.Rehearsed.{counts_text, restored_line, IsSummary, rehearsed_examples};
+ghost use Rattle.rehearsal_core.specs.Rehearsed.{rehearsed_problem};
 
 pub use learn_core::LearnFault;
 pub use rehearsal::{MOST_LEMMAS, Rehearsal, rehearse};
@@ -29,5 +30,6 @@ pub fn rehearsals_are_as_large_as_asked()
         → length (rehearsed_problem criteria categories seed).criteria ≡ criteria }
     ensures categories { (criteria categories seed : ℕ)
         → length (rehearsed_problem criteria categories seed).categories ≡ categories }
-    ensures rows { (criteria categories rows seed : ℕ) → length (rehearsed_examples criteria categories rows seed) ≡ rows }
+    ensures rows { (criteria categories rows seed : ℕ)
+        → length (rehearsed_examples criteria categories rows seed) ≡ rows }
 {}

@@ -4,9 +4,9 @@ use Rattle.std.specs.Prelude.{slice_get}
 use Rattle.std.proofs.lemmas.List.{drop_all}
 use Rattle.model_core.specs.declared.model.Profile.{Profile}
 use Rattle.problem_core.specs.declared.criterion.Criterion.{Criterion}
+use Rattle.written_core.proofs.PutLemmas.{drop_got}
 use Rattle.report_core.specs.DescribedModel.{accepted_lines, threshold_line_at}
 use Rattle.report_core.specs.Text.{numbered}
-use Rattle.report_core.proofs.TextLemmas.{drop_next}
 
 -- the lines of one criterion
 abbrev pub criterion_lines : ℕ → Criterion → Profile → List ℕ
@@ -17,8 +17,8 @@ module _ (criteria : List Criterion) (profiles : List Profile) (i : ℕ) where
   pub accepted_next : (criterion : Criterion) (profile : Profile) → i < length criteria → i < length profiles → slice_get criteria i ≡ Some criterion → slice_get profiles i ≡ Some profile
       → accepted_lines i (drop i criteria) (drop i profiles) ≡ criterion_lines i criterion profile ++ accepted_lines (i + 1) (drop (i + 1) criteria) (drop (i + 1) profiles)
   accepted_next criterion profile within within' is is' =
-      ap (λ (cs : List Criterion). accepted_lines i cs (drop i profiles)) (drop_next criteria i criterion within is)
-      ∙ ap (λ (ps : List Profile). accepted_lines i (criterion ∷ drop (i + 1) criteria) ps) (drop_next profiles i profile within' is')
+      ap (λ (cs : List Criterion). accepted_lines i cs (drop i profiles)) (drop_got criteria i criterion is)
+      ∙ ap (λ (ps : List Profile). accepted_lines i (criterion ∷ drop (i + 1) criteria) ps) (drop_got profiles i profile is')
 
   -- no criterion is left
   pub accepted_none : length criteria ≤ i → accepted_lines i (drop i criteria) (drop i profiles) ≡ []

@@ -1,5 +1,6 @@
 -- How many rows are classified, and how many are of each category.
-use Rattle.std.specs.Prelude.{◌≡◌, ◌+◌, ◌<◌, ◌≤◌, ◌==◌, ℕ, Bool, true, false, List, length, Option, None, Some, count_by, slice_index_or, if◌then◌else◌}
+use Rattle.std.specs.Prelude.{◌≡◌, ◌+◌, ◌<◌, ◌≤◌, ◌==◌, ℕ, Bool, true, false, List, length, Option, None, Some}
+use Rattle.std.specs.Prelude.{count_by, slice_index_or, if◌then◌else◌}
 use Rattle.table_core.specs.declared.row.Row.{Row}
 use Rattle.report_core.specs.declared.counts.Counts.{Counts}
 
@@ -27,14 +28,18 @@ one_if test = if test then 1 else 0
 pub record CountsRow (category : Option ℕ) (old new : Counts) : Type 0 where
   pub all : new.classified ≡ old.classified + one_if (is_classified category)
   pub size : length new.categories.items ≡ length old.categories.items
-  pub each : (place : ℕ) → place < length old.categories.items → slice_index_or new.categories.items place 0 ≡ slice_index_or old.categories.items place 0 + one_if (is_category place category)
+  pub each : (place : ℕ) → place < length old.categories.items
+      → slice_index_or new.categories.items place 0
+      ≡ slice_index_or old.categories.items place 0 + one_if (is_category place category)
 
 -- of all these rows some are left, and the others were counted
 pub record AreCounted (rows left : List Row) (counts : Counts) : Type 0 where
   pub all : counts.classified + classified_count left ≡ classified_count rows
-  pub each : (place : ℕ) → place < length counts.categories.items → slice_index_or counts.categories.items place 0 + category_count left place ≡ category_count rows place
+  pub each : (place : ℕ) → place < length counts.categories.items
+      → slice_index_or counts.categories.items place 0 + category_count left place ≡ category_count rows place
 
 -- no count is above this
 pub record AreAtMost (most : ℕ) (counts : Counts) : Type 0 where
   pub all : counts.classified ≤ most
-  pub each : (place : ℕ) → place < length counts.categories.items → slice_index_or counts.categories.items place 0 ≤ most
+  pub each : (place : ℕ) → place < length counts.categories.items
+      → slice_index_or counts.categories.items place 0 ≤ most

@@ -1,5 +1,6 @@
 -- Descriptions in plain text, line by line.
-use Rattle.std.specs.Prelude.{◌≡◌, ◌⊎◌, IfOk, IfErr, ℕ, Bool, true, false, List, [], ◌++◌, length, map, codes, Option, None, Some, Result, Ok, Err}
+use Rattle.std.specs.Prelude.{◌≡◌, ◌⊎◌, IfOk, IfErr, ℕ, Bool, true, false, List, [], ◌++◌, length, map, codes, Option}
+use Rattle.std.specs.Prelude.{None, Some, Result, Ok, Err}
 use Rattle.std.specs.List.{range_with_len}
 use Rattle.fixed_core.specs.Spelling.{spelling}
 use Rattle.lists_core.specs.Puts.{Puts}
@@ -24,7 +25,8 @@ type_word false = codes "real"
 
 -- a scale of numbers: its type, its direction, its bounds
 abbrev pub numbers_text : List ℕ → Bounds → List ℕ
-numbers_text direction bounds = type_word bounds.whole ++ (direction ++ (spelling bounds.least ++ (codes " to " ++ spelling bounds.most)))
+numbers_text direction bounds =
+    type_word bounds.whole ++ (direction ++ (spelling bounds.least ++ (codes " to " ++ spelling bounds.most)))
 
 abbrev pub scale_text : Scale → List ℕ
 scale_text (Rising bounds) = numbers_text (codes ", increasing, from ") bounds
@@ -32,7 +34,9 @@ scale_text (Falling bounds) = numbers_text (codes ", decreasing, from ") bounds
 scale_text (Named names) = codes "enumerated, " ++ listed (map quoted_text names)
 
 abbrev pub criterion_line : ℕ → Criterion → List ℕ
-criterion_line place criterion = counted (codes "criterion ") place (codes ": ") ++ (quoted_text criterion.name ++ (codes ", " ++ (scale_text criterion.scale ++ line_end)))
+criterion_line place criterion =
+    counted (codes "criterion ") place (codes ": ")
+    ++ (quoted_text criterion.name ++ (codes ", " ++ (scale_text criterion.scale ++ line_end)))
 
 abbrev pub category_line : ℕ → List ℕ → List ℕ
 category_line place name = counted (codes "category ") place (codes ": ") ++ (quoted_text name ++ line_end)
@@ -50,11 +54,13 @@ count_line place count = counted (codes "category ") place (codes ": ") ++ count
 -- how many rows there are, how many of them are classified, and how many are of each category
 abbrev pub counts_text : ℕ → ℕ → List ℕ → List ℕ
 counts_text rows classified counts =
-    counted (codes "alternatives: ") rows line_end ++ (counted (codes "classified: ") classified line_end ++ numbered count_line 0 counts)
+    counted (codes "alternatives: ") rows line_end
+    ++ (counted (codes "classified: ") classified line_end ++ numbered count_line 0 counts)
 
 -- the description of rows, for so many categories
 abbrev pub alternatives_text : ℕ → List Row → List ℕ
-alternatives_text categories rows = counts_text (length rows) (classified_count rows) (map (category_count rows) (range_with_len 0 categories))
+alternatives_text categories rows =
+    counts_text (length rows) (classified_count rows) (map (category_count rows) (range_with_len 0 categories))
 
 -- unless a row is refused
 abbrev pub unless_refused : ProblemValue → List Row → Option RowFault → Result (List ℕ) RowFault
@@ -66,7 +72,8 @@ abbrev pub table_description : ProblemValue → TableState → Result (List ℕ)
 table_description problem table = unless_refused problem (rows_left problem table).0 (rows_left problem table).1
 
 -- the description of a table was appended, or a prefix of it if memory ran out, or nothing at a refused row
-pub record Describes {T : Type 0} (answer : Result (List ℕ) RowFault) (old new : List ℕ) (result : Result T RowFault) : Type 0 where
+pub record Describes {T : Type 0} (answer : Result (List ℕ) RowFault) (old new : List ℕ)
+    (result : Result T RowFault) : Type 0 where
   pub text : IfOk answer (λ text. Puts old new result text)
   pub refused : IfErr answer (λ why. (result ≡ Err why) ⊎ (result ≡ Err fault.NoMemory))
   pub cause : IfErr result (λ why. (why ≡ fault.NoMemory) ⊎ (answer ≡ Err why))

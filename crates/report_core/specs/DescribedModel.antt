@@ -29,7 +29,9 @@ threshold_text scale (Some grade) = bound_text scale grade
 
 -- criterion I at boundary H
 abbrev pub threshold_line : ℕ → Scale → ℕ → Option ℤ → List ℕ
-threshold_line i scale h threshold = counted (codes "criterion ") i (codes " boundary ") ++ (counted [] h (codes ": ") ++ (threshold_text scale threshold ++ line_end))
+threshold_line i scale h threshold =
+    counted (codes "criterion ") i (codes " boundary ")
+    ++ (counted [] h (codes ": ") ++ (threshold_text scale threshold ++ line_end))
 
 -- the same at a place of the boundaries, at which boundary 1 is the first
 abbrev pub threshold_line_at : ℕ → Scale → ℕ → Option ℤ → List ℕ
@@ -57,7 +59,8 @@ coalitions_text criteria (Weights weights) = weights_text weights
 coalitions_text criteria (Roots roots) = roots_text criteria roots
 
 abbrev pub boundary_line : ℕ → ℕ → Coalitions → List ℕ
-boundary_line criteria h coalitions = counted (codes "boundary ") h (codes ": ") ++ (coalitions_text criteria coalitions ++ line_end)
+boundary_line criteria h coalitions =
+    counted (codes "boundary ") h (codes ": ") ++ (coalitions_text criteria coalitions ++ line_end)
 
 abbrev pub boundary_line_at : ℕ → ℕ → Coalitions → List ℕ
 boundary_line_at criteria place coalitions = boundary_line criteria (place + 1) coalitions

@@ -1,5 +1,6 @@
 -- Plain text: numbers between words, lists in brackets, lines.
-use Rattle.std.specs.Prelude.{ℕ, ◌+◌, ◌==◌, List, [], ◌∷◌, ◌++◌, codes, decimal, if◌then◌else◌}
+use Rattle.std.specs.Prelude.{ℕ, ◌+◌, List, [], ◌∷◌, ◌++◌, codes, decimal}
+use Rattle.written_core.specs.Parts.{comma}
 
 -- the end of a line
 abbrev pub line_end : List ℕ
@@ -13,10 +14,6 @@ counted before number after = before ++ (decimal number ++ after)
 abbrev pub numbered : {A : Type 0} → (ℕ → A → List ℕ) → ℕ → List A → List ℕ
 numbered text place [] = []
 numbered text place (item ∷ items) = text place item ++ numbered text (place + 1) items
-
--- a comma and a space before each item of a list but the first
-abbrev pub comma : ℕ → List ℕ
-comma place = if place == 0 then [] else codes ", "
 
 -- an item of a list, with what separates it from those before it
 abbrev pub item_text : ℕ → List ℕ → List ℕ

@@ -35,22 +35,28 @@ pub fn classify<O: Sink>(
     // All rows were read, and the whole table is written.
     ensures count { IfOk result (λ count. count ≡ length (rows_left problem.now table).0) }
     ensures end { OnOk result ((rows_left problem.now table).1 ≡ None) }
-    ensures whole { OnOk result (Appends (O.state sink.old).written (O.state sink.new).written (classified_text problem.now (rule_of problem.now model.now) table)) }
+    ensures whole { OnOk result (Appends (O.state sink.old).written (O.state sink.new).written
+        (classified_text problem.now (rule_of problem.now model.now) table)) }
 
     // The first refused row, and the rows before it are written. There is one exactly if it is returned, unless a write
     // fails or memory runs out before.
-    ensures refused { (fault : RowFault) → result ≡ Err (ReportFault.Row fault) → (rows_left problem.now table).1 ≡ Some fault }
+    ensures refused { (fault : RowFault) → result ≡ Err (ReportFault.Row fault)
+        → (rows_left problem.now table).1 ≡ Some fault }
     ensures cause { (fault : RowFault) → result ≡ Err (ReportFault.Row fault) → fault ≢ RowFault.NoMemory }
     ensures rows_before { (fault : RowFault) → result ≡ Err (ReportFault.Row fault)
-        → Appends (O.state sink.old).written (O.state sink.new).written (classified_text problem.now (rule_of problem.now model.now) table) }
-    ensures exactly { (fault : RowFault) → (rows_left problem.now table).1 ≡ Some fault → (Rose (O.state sink.old).faults (O.state sink.new).faults → ⊥)
+        → Appends (O.state sink.old).written (O.state sink.new).written
+        (classified_text problem.now (rule_of problem.now model.now) table) }
+    ensures exactly { (fault : RowFault) → (rows_left problem.now table).1 ≡ Some fault
+        → (Rose (O.state sink.old).faults (O.state sink.new).faults → ⊥)
         → (result ≡ Err (ReportFault.Row fault)) ⊎ (result ≡ Err ReportFault.NoMemory) }
 
     ensures write { result ≡ Err ReportFault.Write → Rose (O.state sink.old).faults (O.state sink.new).faults }
     ensures write_part { result ≡ Err ReportFault.Write
-        → AppendsPart (O.state sink.old).written (O.state sink.new).written (classified_text problem.now (rule_of problem.now model.now) table) }
+        → AppendsPart (O.state sink.old).written (O.state sink.new).written
+        (classified_text problem.now (rule_of problem.now model.now) table) }
     ensures no_memory { result ≡ Err ReportFault.NoMemory
-        → AppendsPrefix (O.state sink.old).written (O.state sink.new).written (classified_text problem.now (rule_of problem.now model.now) table) }
+        → AppendsPrefix (O.state sink.old).written (O.state sink.new).written
+        (classified_text problem.now (rule_of problem.now model.now) table) }
     ensures later { (O.state sink.old).faults ≤ (O.state sink.new).faults }
 {
     write_table(alloc, problem, model, &mut table, sink)

@@ -3,14 +3,18 @@ ghost use Rattle.std.specs.Prelude.{◌≡◌, ◌+◌, ◌≤◌, ◌++◌, All
 ghost use Rattle.lists_core.specs.Puts.{Puts};
 ghost use Rattle.model_core.specs.Model.{Belongs, IsThreshold};
 ghost use Rattle.problem_core.specs.Grade.{IsGrade, quoted_grade_text};
-ghost use Rattle.report_core.specs.DescribedModel.{accepted_lines, boundary_line, boundary_line_at, bound_text, bound_word, coalitions_text, model_description, places_text, roots_text, threshold_line, threshold_line_at, threshold_text, weights_text};
+ghost use Rattle.report_core.specs.DescribedModel.{accepted_lines, boundary_line, boundary_line_at, bound_text};
+ghost use Rattle.report_core.specs.DescribedModel.{bound_word, coalitions_text, model_description, places_text};
+ghost use Rattle.report_core.specs.DescribedModel.{roots_text, threshold_line, threshold_line_at, threshold_text};
+ghost use Rattle.report_core.specs.DescribedModel.{weights_text};
 ghost use Rattle.report_core.specs.Text.{item_text, numbered};
 
-use crate::text::{put_comma, put_counted, put_text};
+use crate::text::put_counted;
 use model_core::{Coalitions, Fixeds, Masks, Model, Profile};
 use model_text_core::{put_places, put_weights};
 use problem_core::{Criterion, Grade, Problem, Scale, put_quoted_grade};
 use std::alloc::AllocError;
+use written_core::{put_comma, put_text};
 
 /// The words before a threshold: it is the greatest accepted grade on a falling scale, and the least on any other.
 fn bound_word(scale: &Scale) -> &'static str
@@ -71,7 +75,8 @@ fn put_thresholds(
     out: &mut Vec<u8>,
 ) -> Result<(), AllocError>
     requires { All (IsThreshold criterion.now.scale) profile.now.thresholds }
-    ensures { Puts out.old.items out.new.items result (numbered (threshold_line_at i criterion.now.scale) 0 profile.now.thresholds) }
+    ensures { Puts out.old.items out.new.items result
+        (numbered (threshold_line_at i criterion.now.scale) 0 profile.now.thresholds) }
 {
     for place in 0..profile.thresholds.len() {
         put_threshold(i, place + 1, criterion, *profile.thresholds.get(place), out)?;
@@ -103,7 +108,7 @@ fn put_root(place: u32, criteria: u32, root: u32, out: &mut Vec<u8>) -> Result<(
     requires { criteria ≤ 32 }
     ensures { Puts out.old.items out.new.items result (item_text place (places_text criteria root)) }
 {
-    put_comma(place, out)?;
+    put_comma(place as usize, out)?;
     put_places(criteria, root, out)
 }
 
@@ -161,7 +166,8 @@ fn put_boundary(
 /// Appends the lines of all boundaries.
 fn put_boundaries(problem: &Problem, model: &Model, out: &mut Vec<u8>) -> Result<(), AllocError>
     requires { Belongs problem.now model.now }
-    ensures { Puts out.old.items out.new.items result (numbered (boundary_line_at (length problem.now.criteria)) 0 model.now.coalitions) }
+    ensures { Puts out.old.items out.new.items result
+        (numbered (boundary_line_at (length problem.now.criteria)) 0 model.now.coalitions) }
 {
     let criteria = problem.criteria_count();
     let boundaries = problem.categories_count() - 1;
@@ -171,9 +177,9 @@ fn put_boundaries(problem: &Problem, model: &Model, out: &mut Vec<u8>) -> Result
     Ok(())
 }
 
-/// Appends the description of a model: a line with the numbers of criteria and boundaries, a line for each criterion and
-/// boundary with the grades that are accepted, and a line for each boundary with its coalitions. Out of memory leaves a
-/// prefix of it.
+/// Appends the description of a model: a line with the numbers of criteria and boundaries, a line for each criterion
+/// and boundary with the grades that are accepted, and a line for each boundary with its coalitions. Out of memory
+/// leaves a prefix of it.
 pub fn describe_model(problem: &Problem, model: &Model, out: &mut Vec<u8>) -> Result<(), AllocError>
     requires { Belongs problem.now model.now }
     ensures { Puts out.old.items out.new.items result (model_description problem.now model.now) }

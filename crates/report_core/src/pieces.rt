@@ -27,7 +27,9 @@ fn put_current_row(
     requires belongs { Belongs problem.now model.now }
     requires current { IsSome table.now.current }
     requires grades { IfSome table.now.current (HasGrades problem.now) }
-    ensures { IfSome table.now.current (λ row. Puts piece.old.items piece.new.items result (classified_record problem.now (rule_of problem.now model.now) row)) }
+    ensures { IfSome table.now.current
+        (λ row. Puts piece.old.items piece.new.items result
+        (classified_record problem.now (rule_of problem.now model.now) row)) }
 {
     let category = sort(problem, model, table.grades());
     table.put_current(problem.category(category), piece)
@@ -68,7 +70,8 @@ fn write_piece<O: Sink>(
     requires belongs { Belongs problem.now model.now }
     requires fits { IsTableOf problem.now table.old }
     ensures fits { IsTableOf problem.now table.new }
-    ensures writes { WritesPiece problem.now (rule_of problem.now model.now) table.old table.new (O.state sink.old) (O.state sink.new) result }
+    ensures writes { WritesPiece problem.now (rule_of problem.now model.now) table.old table.new (O.state sink.old)
+        (O.state sink.new) result }
     ensures later { (O.state sink.old).faults ≤ (O.state sink.new).faults }
 {
     let gathered = gather(problem, model, table, piece);
@@ -87,7 +90,8 @@ fn write_rows<O: Sink>(
     requires belongs { Belongs problem.now model.now }
     requires fits { IsTableOf problem.now table.old }
     ensures writes { let rule = rule_of problem.now model.now in
-        WritesRows problem.now table.old (rows_text problem.now rule table.old) (O.state sink.old) (O.state sink.new) result }
+        WritesRows problem.now table.old (rows_text problem.now rule table.old) (O.state sink.old) (O.state sink.new)
+        result }
     ensures later { (O.state sink.old).faults ≤ (O.state sink.new).faults }
 {
     let before = table.rows_read();
@@ -106,7 +110,8 @@ pub fn write_table<O: Sink>(
     requires belongs { Belongs problem.now model.now }
     requires fits { IsTableOf problem.now table.old }
     ensures writes { let rule = rule_of problem.now model.now in
-        WritesRows problem.now table.old (classified_text problem.now rule table.old) (O.state sink.old) (O.state sink.new) result }
+        WritesRows problem.now table.old (classified_text problem.now rule table.old) (O.state sink.old)
+        (O.state sink.new) result }
     ensures later { (O.state sink.old).faults ≤ (O.state sink.new).faults }
 {
     let mut piece = Vec::new(alloc);

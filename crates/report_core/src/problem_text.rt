@@ -2,13 +2,15 @@
 ghost use Rattle.std.specs.Prelude.{◌≡◌, ◌++◌, codes, map};
 ghost use Rattle.lists_core.specs.Puts.{Puts};
 ghost use Rattle.yaml_tokens.specs.Written.{quoted_text};
-ghost use Rattle.report_core.specs.Described.{category_line, criterion_line, numbers_text, problem_description, scale_text, type_word};
+ghost use Rattle.report_core.specs.Described.{category_line, criterion_line, numbers_text, problem_description};
+ghost use Rattle.report_core.specs.Described.{scale_text, type_word};
 ghost use Rattle.report_core.specs.Text.{item_text, line_end, listed, numbered};
 
-use crate::text::{put_comma, put_counted, put_text};
+use crate::text::put_counted;
 use fixed_core::put_fixed;
 use problem_core::{Bounds, Criterion, Names, Problem, Scale};
 use std::alloc::AllocError;
+use written_core::{put_comma, put_text};
 use yaml_core::put_quoted;
 
 /// The word for the type of a scale of numbers.
@@ -33,7 +35,7 @@ fn put_numbers(direction: &str, bounds: Bounds, out: &mut Vec<u8>) -> Result<(),
 fn put_name(place: u32, name: &str, out: &mut Vec<u8>) -> Result<(), AllocError>
     ensures { Puts out.old.items out.new.items result (item_text place (quoted_text name.now)) }
 {
-    put_comma(place, out)?;
+    put_comma(place as usize, out)?;
     put_quoted(name, out)
 }
 

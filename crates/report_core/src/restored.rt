@@ -14,7 +14,8 @@ fn is_restored(problem: &Problem, model: &Model, examples: &Examples, row: u32) 
     requires belongs { Belongs problem.now model.now }
     requires examples { BelongTo problem.now examples.now }
     requires row { row < length examples.now }
-    ensures { let example = example_at examples.now row in result ≡ (category (rule_of problem.now model.now) example.grades == example.category) }
+    ensures { let example = example_at examples.now row in
+        result ≡ (category (rule_of problem.now model.now) example.grades == example.category) }
 {
     sort(problem, model, examples.grades(row)) == examples.category(row)
 }

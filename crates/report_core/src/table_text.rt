@@ -79,7 +79,8 @@ pub fn describe_table(
 ) -> Result<(), RowFault>
     requires { IsTableOf problem.now table }
     ensures text { IfOk (table_description problem.now table) (λ text. Puts out.old.items out.new.items result text) }
-    ensures refused { IfErr (table_description problem.now table) (λ why. (result ≡ Err why) ⊎ (result ≡ Err fault.NoMemory)) }
+    ensures refused { IfErr (table_description problem.now table)
+        (λ why. (result ≡ Err why) ⊎ (result ≡ Err fault.NoMemory)) }
     ensures cause { IfErr result (λ why. (why ≡ fault.NoMemory) ⊎ (table_description problem.now table ≡ Err why)) }
     ensures nothing { IfErr (table_description problem.now table) (λ _. out.new.items ≡ out.old.items) }
 {

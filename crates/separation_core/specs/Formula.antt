@@ -8,7 +8,9 @@ use Rattle.accepted_core.specs.Plain.{better_of, lower_of}
 use Rattle.separation_core.specs.Plain.{pairs_of}
 
 abbrev pub plain_clauses : Numbers → List (List ℕ)
-plain_clauses u = better_of u.boundaries u.counts u.firsts ++ (lower_of u.boundaries u.counts u.firsts ++ pairs_of (u.accepted + 1) (length u.counts) u.goods u.bads)
+plain_clauses u =
+    better_of u.boundaries u.counts u.firsts
+    ++ (lower_of u.boundaries u.counts u.firsts ++ pairs_of (u.accepted + 1) (length u.counts) u.goods u.bads)
 
 abbrev pub plain_variables : Numbers → ℕ
 plain_variables u = u.accepted + length u.goods * length u.bads * length u.counts

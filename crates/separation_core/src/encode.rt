@@ -17,11 +17,11 @@ use ranks_core::{EncodeFault, MOST_LITERALS, Ranks};
 use std::alloc::Global;
 use table_core::Examples;
 
-/// Returns the separation formula of examples of a problem: some criterion separates each good example from each bad one
-/// (after Belahcène and others 2018). If no values make every clause true, no model restores the examples.
+/// Returns the separation formula of examples of a problem: some criterion separates each good example from each bad
+/// one (after Belahcène and others 2018). If no values make every clause true, no model restores the examples.
 ///
-/// The error is `TooLarge`, with the number of literals, if the formula would have more than [`MOST_LITERALS`]. The number is
-/// found before any memory is taken. `Wide` never comes.
+/// The error is `TooLarge`, with the number of literals, if the formula would have more than [`MOST_LITERALS`]. The
+/// number is found before any memory is taken. `Wide` never comes.
 pub fn encode_separation(
     alloc: Global,
     problem: &Problem,

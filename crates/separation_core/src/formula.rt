@@ -23,7 +23,8 @@ fn formula_from(
     bads: &Rows<u32>,
 ) -> Result<Formula, AllocError>
     requires { HasTask (numbers boundaries accepted counts.now firsts.now goods.now bads.now) }
-    ensures { IfOk result (λ formula. formula ≡ plain_formula (numbers boundaries accepted counts.now firsts.now goods.now bads.now)) }
+    ensures { IfOk result (λ formula. formula
+        ≡ plain_formula (numbers boundaries accepted counts.now firsts.now goods.now bads.now)) }
 {
     let n = counts.len() as u32;
     let pairs = goods.count() as u32 * bads.count() as u32 * n;
@@ -37,7 +38,8 @@ fn formula_from(
 /// The separation formula of a small task, by the numbers of its unknowns.
 pub fn separation_of(alloc: Global, unknowns: &Unknowns) -> Result<Formula, AllocError>
     requires { HasTask unknowns.now }
-    ensures { IfOk result (λ formula. (task : Task) → AreNumbers task unknowns.now → formula ≡ formula_of Separation task) }
+    ensures { IfOk result
+        (λ formula. (task : Task) → AreNumbers task unknowns.now → formula ≡ formula_of Separation task) }
 {
     formula_from(
         alloc,

@@ -11,7 +11,8 @@ pub record GoesOn (old new : Option (List ℕ)) (bytes held : List ℕ) : Type 0
 
 -- a text follows the bytes that were held before: all of it went out or is held after; or the count rose, and only a
 -- part of these bytes went out
-pub record Streams {T E : Type 0} (old new : SinkState) (before after text : List ℕ) (result : Result T E) : Type 0 where
-  pub whole : OnOk result (GoesOn old.written new.written (before ++ text) after)
-  pub part : OnErr result (AppendsPart old.written new.written (before ++ text))
-  pub cause : HasCause old.faults new.faults result
+pub record Streams {T E : Type 0} (old new : SinkState) (before after text : List ℕ) (result : Result T E) : Type 0
+  where
+    pub whole : OnOk result (GoesOn old.written new.written (before ++ text) after)
+    pub part : OnErr result (AppendsPart old.written new.written (before ++ text))
+    pub cause : HasCause old.faults new.faults result

@@ -6,7 +6,8 @@ ghost use Rattle.chain_core.specs.Literal.{IsPlace};
 ghost use Rattle.chain_core.specs.Lemma.{IsNumbered, IsWritable};
 ghost use Rattle.chain_core.specs.Reading.{log_of};
 ghost use Rattle.chain_core.specs.declared.number.TheConstants.{MOST_ID};
-ghost use Rattle.chain_core.specs.Text.{line_of, literal_word, size_words, clause_words, dimacs_text, lemma_words, header_words, log_text};
+ghost use Rattle.chain_core.specs.Text.{line_of, literal_word, size_words, clause_words, dimacs_text, lemma_words};
+ghost use Rattle.chain_core.specs.Text.{header_words, log_text};
 ghost use Rattle.stream_core.specs.Stream.{Streams};
 
 use crate::piece::Piece;
@@ -45,7 +46,8 @@ fn put_size<O: Sink>(
     piece: &mut Piece,
     sink: &mut O,
 ) -> Result<(), Failed>
-    ensures { Streams (O.state sink.old) (O.state sink.new) piece.old piece.new (line_of (size_words variables clauses)) result }
+    ensures { Streams (O.state sink.old) (O.state sink.new) piece.old piece.new (line_of (size_words variables clauses))
+        result }
 {
     put_text(b"p cnf ", piece, sink)?;
     put_id(variables, piece, sink)?;
@@ -57,7 +59,8 @@ fn put_size<O: Sink>(
 
 /// Puts the line of each clause.
 fn put_clauses<O: Sink>(formula: &Formula, piece: &mut Piece, sink: &mut O) -> Result<(), Failed>
-    ensures { Streams (O.state sink.old) (O.state sink.new) piece.old piece.new (flat_map (λ clause. line_of (clause_words clause)) formula.now.clauses) result }
+    ensures { Streams (O.state sink.old) (O.state sink.new) piece.old piece.new
+        (flat_map (λ clause. line_of (clause_words clause)) formula.now.clauses) result }
 {
     for k in 0..formula.count() {
         put_clause(formula.clause(k + 1), piece, sink)?;
@@ -67,7 +70,8 @@ fn put_clauses<O: Sink>(formula: &Formula, piece: &mut Piece, sink: &mut O) -> R
 
 /// Puts the line of a clause.
 fn put_clause<O: Sink>(literals: &[Literal], piece: &mut Piece, sink: &mut O) -> Result<(), Failed>
-    ensures { Streams (O.state sink.old) (O.state sink.new) piece.old piece.new (line_of (clause_words literals.now)) result }
+    ensures { Streams (O.state sink.old) (O.state sink.new) piece.old piece.new (line_of (clause_words literals.now))
+        result }
 {
     put_literals(literals, piece, sink)?;
     put_text(b"0\n", piece, sink)
@@ -86,7 +90,8 @@ fn header_of(encoding: Encoding) -> &'static [u8]
 
 /// Puts the line of each lemma.
 fn put_lemmas<O: Sink>(log: &Log, piece: &mut Piece, sink: &mut O) -> Result<(), Failed>
-    ensures streams { Streams (O.state sink.old) (O.state sink.new) piece.old piece.new (flat_map (λ lemma. line_of (lemma_words lemma)) log.now) result }
+    ensures streams { Streams (O.state sink.old) (O.state sink.new) piece.old piece.new
+        (flat_map (λ lemma. line_of (lemma_words lemma)) log.now) result }
     ensures writable { OnOk result (All IsWritable log.now) }
 {
     for k in 0..log.count() {
@@ -98,7 +103,8 @@ fn put_lemmas<O: Sink>(log: &Log, piece: &mut Piece, sink: &mut O) -> Result<(),
 /// Puts the line of a lemma.
 fn put_lemma<O: Sink>(lemma: &Lemma, piece: &mut Piece, sink: &mut O) -> Result<(), Failed>
     requires { IsNumbered lemma.now }
-    ensures streams { Streams (O.state sink.old) (O.state sink.new) piece.old piece.new (line_of (lemma_words lemma.now)) result }
+    ensures streams { Streams (O.state sink.old) (O.state sink.new) piece.old piece.new
+        (line_of (lemma_words lemma.now)) result }
     ensures writable { OnOk result (IsWritable lemma.now) }
 {
     put_id(lemma.id, piece, sink)?;
@@ -114,7 +120,8 @@ fn put_literals<O: Sink>(
     piece: &mut Piece,
     sink: &mut O,
 ) -> Result<(), Failed>
-    ensures streams { Streams (O.state sink.old) (O.state sink.new) piece.old piece.new (flat_map (λ l. literal_word l ++ 32 ∷ []) literals.now) result }
+    ensures streams { Streams (O.state sink.old) (O.state sink.new) piece.old piece.new
+        (flat_map (λ l. literal_word l ++ 32 ∷ []) literals.now) result }
     ensures reach { OnOk result (All IsPlace literals.now) }
 {
     for literal in literals {
@@ -125,7 +132,8 @@ fn put_literals<O: Sink>(
 
 /// Puts a literal and a space.
 fn put_literal<O: Sink>(literal: Literal, piece: &mut Piece, sink: &mut O) -> Result<(), Failed>
-    ensures streams { Streams (O.state sink.old) (O.state sink.new) piece.old piece.new (literal_word literal ++ 32 ∷ []) result }
+    ensures streams { Streams (O.state sink.old) (O.state sink.new) piece.old piece.new
+        (literal_word literal ++ 32 ∷ []) result }
     ensures reach { OnOk result (IsPlace literal) }
 {
     piece.make_room(sink)?;
@@ -136,7 +144,8 @@ fn put_literal<O: Sink>(literal: Literal, piece: &mut Piece, sink: &mut O) -> Re
 
 /// Puts ids, with a space after each.
 fn put_ids<O: Sink>(ids: &[u32], piece: &mut Piece, sink: &mut O) -> Result<(), Failed>
-    ensures streams { Streams (O.state sink.old) (O.state sink.new) piece.old piece.new (flat_map (λ id. decimal id ++ 32 ∷ []) ids.now) result }
+    ensures streams { Streams (O.state sink.old) (O.state sink.new) piece.old piece.new
+        (flat_map (λ id. decimal id ++ 32 ∷ []) ids.now) result }
     ensures reach { OnOk result (All (λ id. id ≤ MOST_ID) ids.now) }
 {
     for id in ids {

@@ -1,5 +1,6 @@
 -- The examples of a table: the rows that have a category.
-use Rattle.std.specs.Prelude.{◌<◌, ℕ, ℤ, List, [], ◌∷◌, length, All, Option, None, Some, Result, Ok, Err, slice_index_or}
+use Rattle.std.specs.Prelude.{◌<◌, ℕ, ℤ, List, [], ◌∷◌, length, All, Option, None, Some, Result, Ok, Err}
+use Rattle.std.specs.Prelude.{slice_index_or}
 use Rattle.std.specs.List.{filter_map, AllZip}
 use Rattle.problem_core.specs.Grade.{IsGrade}
 use Rattle.problem_core.specs.Problem.{ProblemValue}
@@ -13,7 +14,8 @@ use Rattle.table_core.specs.declared.row.Row.{Row}
 abbrev pub examples_of : List (List ℤ) → List ℕ → List Example
 examples_of [] categories = []
 examples_of (grades ∷ rows) [] = []
-examples_of (grades ∷ rows) (category ∷ categories) = record { grades = grades; category = category } ∷ examples_of rows categories
+examples_of (grades ∷ rows) (category ∷ categories) =
+    record { grades = grades; category = category } ∷ examples_of rows categories
 
 abbrev pub no_example : Example
 no_example = record { grades = []; category = 0 }

@@ -15,7 +15,8 @@ fn add_current(table: &Table, examples: &mut Examples) -> Result<(), AllocError>
     requires current { IsSome table.now.current }
     requires room { length examples.old < 4000000000 }
     requires same { IfSome table.now.current (λ row. All (λ e. length e.grades ≡ length row.grades) examples.old) }
-    ensures { OnOk result (IfSome table.now.current (λ row. examples.new ≡ examples.old ++ classified_rows (row ∷ []))) }
+    ensures { OnOk result
+        (IfSome table.now.current (λ row. examples.new ≡ examples.old ++ classified_rows (row ∷ []))) }
 {
     if let Some(category) = table.category() {
         examples.push(table.grades(), category)?;

@@ -1,4 +1,4 @@
-//! What no clause says: that learning comes to each of its answers with ample memory.
+//! What no clause says: that learning comes to each of its results with ample memory.
 use crate::files::{problem_of, table_of};
 use encoders_core::Encoding;
 use learn_core::{Answer, learn};

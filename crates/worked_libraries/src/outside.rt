@@ -1,4 +1,5 @@
-//! What no clause says: what the system's files and outputs give and take, and that calls return no fault with ample memory.
+//! What no clause says: what the system's files and outputs give and take, and that calls return no fault with ample
+//! memory.
 use edge_core::*;
 use std::fs;
 use std::io::{self, Write};

@@ -156,7 +156,7 @@ struct Ended {
 }
 
 /// Runs a command line over the files of all cases. Write `failing_out` of the output fails, and write
-/// `failing_err` of the error output; 0 stands for none.
+/// `failing_err` of the error output; 0 is none.
 fn end_of(
     alloc: Global,
     line: &str,

@@ -1,4 +1,4 @@
-//! A long chain of implications whose clauses stand in a scattered order.
+//! A long chain of implications whose clauses come in a scattered order.
 ghost use Rattle.std.specs.Prelude.{◌≤◌, All, IfOk};
 ghost use Rattle.watch_core.specs.Places.{HasDistinctVariables};
 

@@ -6,3 +6,7 @@ pub mod Outlines
 pub mod Utf8
 pub mod Examples
 pub mod PutLemmas
+pub mod Words
+pub mod Lookups
+pub mod FlowTexts
+pub mod Lists

@@ -182,9 +182,9 @@ items-grouped c (Dashed first more) h e =
     ∙ groups-first (is_deeper c) (item_first c first) (tokens (item_own c first)) (tokens (outline_lines c more)) (item_groups c more) (item-first-starts c first) (deeper c (item_own c first) (item-own-from c first))
     (items-grouped c more h.1.1 h.0)
 
--- ---- blocks, from what stands in them
+-- ---- blocks, from what is in them
 
--- what stands under a key or behind a dash reads as it is meant, with so many levels
+-- what is under a key or behind a dash reads as it is meant, with so many levels
 abbrev ReadsValues : ℕ → Type 0
 ReadsValues d = (c p : ℕ) (o : Outline) (names : Names) → IsOutline o → value_of (block d) (inline_whole d) (value_tokens p (behind o)) (tokens (outline_lines c o)) names ≡ meaning d o names
 
@@ -285,7 +285,7 @@ module _ (d : ℕ) (values : ReadsValues d) where
           ∙ ap (list_all (λ m. nat_le c (indentation m))) (sym (map-append tokens_in (item_own c first) (outline_lines c more)))
           ∙ all-from c (item_own c first ++ outline_lines c more) (from-append c (item_own c first) (outline_lines c more) (from-weaker c (c + 2) (item_own c first) (omega arith) (item-own-from c first)) (lines-from c more))
 
--- ---- what stands under a key or behind a dash
+-- ---- what is under a key or behind a dash
 
 values-read : (d : ℕ) → ReadsValues d
 unfolding block meaning

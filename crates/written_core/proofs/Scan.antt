@@ -92,7 +92,7 @@ word-flow b h = rw (differs is_word_byte b 44 h refl, differs is_word_byte b 91 
 word-separated : (depth c : ℕ) (rest : List ℕ) → is_word_byte c ≡ true → is_separated depth (c ∷ rest) ≡ false
 word-separated depth c rest h = rw (differs is_word_byte c 32 h refl, word-flow c h) (and-false (nat_lt 0 depth))
 
--- it isn't a dash, where a dash would be alone
+-- it isn't a dash if a dash would be alone
 abbrev Begins : ℕ → ℕ → List ℕ → Type 0
 Begins depth b bs = ((b == 45) ≡ true → is_blank_next bs ≡ false) × (begins_plain depth b bs ≡ true)
 
@@ -175,7 +175,7 @@ pub record Follows (depth : ℕ) (r : List ℕ) : Type 0 where
   pub plain : plain depth r ≡ Some ([], r)
   pub quoted : ends_quoted depth r ≡ true
 
--- a scalar is scanned whole where it may end
+-- a scalar is scanned whole if it may end there
 pub scalar-outside : (p : ℕ) (spaced : Bool) (was : Before) (s : Scalar) (r : List ℕ) (ts : Line) (after : ℕ) → IsGoodScalar s → Follows 0 r
     → Scans (p + length (scalar_text s)) false 0 before.Scalar r ts after → Scans p spaced 0 was (scalar_text s ++ r) (at p (scalar_token s) ∷ ts) after
 scalar-outside p spaced was (Word []) r ts after h f more = absurd (cc)

@@ -1,6 +1,6 @@
--- The text of a written outline is UTF-8, where the texts in double quotes are; so its bytes read as its tree.
-use Rattle.std.proofs.Common.{◌≡◌, ℕ, zero, suc, ◌+◌, ◌<◌, Bool, true, false, List, [], ◌∷◌, ◌++◌, refl, sym, ap, ◌∙◌, arith, Option, Ok, Err}
-use Rattle.std.specs.Prelude.{option_map, if◌then◌else◌}
+-- The text of a written outline is UTF-8 if the texts in double quotes are; so its bytes read as its tree.
+use Rattle.std.proofs.Common.{◌≡◌, ℕ, zero, suc, ◌+◌, ◌<◌, ◌≤◌, Bool, true, false, List, [], ◌∷◌, ◌++◌, refl, sym, ap, ◌∙◌, arith, Option, Some, Ok, Err}
+use Rattle.std.specs.Prelude.{nat_le, option_map, if◌then◌else◌}
 use Rattle.std.specs.List.{list_all}
 use Rattle.std.specs.Str.{IsUtf8, is_utf8}
 use Rattle.std.proofs.lemmas.Bool.{and_parts}
@@ -12,6 +12,7 @@ use Rattle.yaml_core.specs.declared.node.Node.{Node}
 use Rattle.yaml_core.specs.declared.node.Node.TheVariants as node
 use Rattle.yaml_core.specs.Measured.{Measured}
 use Rattle.yaml_core.specs.Read.{reading, within_limit}
+use Rattle.yaml_core.specs.Size.{node_count, most_nodes}
 use Rattle.yaml_core.specs.Tree.{text_tree}
 use Rattle.yaml_tokens.specs.Written.{quoted_text}
 use Rattle.yaml_core.proofs.WrittenTreeLemmas.{quoted-reading}
@@ -124,3 +125,14 @@ outline-reading o h u =
     let ls = outline_lines 0 o in
     rw (is_utf8-from_IsUtf8 (document_text ls) (document-utf8 ls (lines-good 0 o h) (lines-utf8 0 o u)))
     (ap (λ (read : Option Measured). within_limit (option_map (λ m. m.node) read)) (outline-read o h))
+
+within-few : (n : Node) → node_count n ≤ most_nodes → within_limit (Some n) ≡ Ok n
+within-few n h = let few : nat_le (node_count n) most_nodes ≡ true = at_most (node_count n) h in rw few refl
+  where
+    at_most : (k : ℕ) → k ≤ most_nodes → nat_le k most_nodes ≡ true
+    at_most k h = grind (arith, nat_tests)
+
+-- so they read as its tree if that has few nodes
+pub outline-reads-back : (o : Outline) (m : Measured) → IsOutline o → IsUtf8Outline o → outline_measured o ≡ Some m → node_count m.node ≤ most_nodes → reading (document_text (outline_lines 0 o)) ≡ Ok m.node
+outline-reads-back o m good u is few =
+    outline-reading o good u ∙ ap (λ (r : Option Measured). within_limit (option_map (λ x. x.node) r)) is ∙ within-few m.node few

@@ -5,7 +5,8 @@ use Rattle.yaml_core.specs.declared.node.Node.TheVariants as node
 use Rattle.yaml_core.specs.Measured.{Measured, leaf, list_node, map_node, Entry}
 use Rattle.yaml_core.specs.Reading.{Reading, nothing, gives, ◌>>=◌, naming, node_named}
 use Rattle.yaml_core.specs.Tree.{plain_node, adding}
-use Rattle.written_core.specs.Document.{Scalar, Word, Text, Start, Item, Key, ItemKey, Value, Blank, One, Flow, Named, Same, DocLine, line, is_key, is_anchor, IsGoodValue, IsUtf8Value}
+use Rattle.written_core.specs.Document.{Scalar, Word, Text, Start, Item, Key, ItemKey, Value, Blank, One, Flow, Named}
+use Rattle.written_core.specs.Document.{Same, DocLine, line, is_key, is_anchor, IsGoodValue, IsUtf8Value}
 
 -- What follows a key or a dash: a value on the same line; nothing more; an entry with its key and value, and
 -- the entries after it; an item, and the items after it; or entries or items with an anchor.
@@ -15,6 +16,21 @@ pub data Outline : Type 0 where
   Under : List ℕ → Outline → Outline → Outline
   Dashed : Outline → Outline → Outline
   Anchored : List ℕ → Outline → Outline
+
+-- a word as it is, and a text in double quotes
+abbrev pub word : List ℕ → Outline
+word t = Leaf (One (Word t))
+
+abbrev pub quoted : List ℕ → Outline
+quoted t = Leaf (One (Text t))
+
+-- items, or an empty flow list if there are none
+abbrev pub listed : Outline → Outline
+listed End = Leaf (Flow [])
+listed (Leaf v) = Leaf v
+listed (Under key first more) = Under key first more
+listed (Dashed first more) = Dashed first more
+listed (Anchored name o) = Anchored name o
 
 -- ---- lines
 
@@ -48,7 +64,8 @@ item_lines c (Anchored name o) own = line c Item (Named name) ∷ own
 abbrev pub outline_lines : ℕ → Outline → List DocLine
 outline_lines c (Leaf v) = []
 outline_lines c End = []
-outline_lines c (Under key first more) = line c (Key key) (behind first) ∷ (outline_lines (c + 2) first ++ outline_lines c more)
+outline_lines c (Under key first more) =
+    line c (Key key) (behind first) ∷ (outline_lines (c + 2) first ++ outline_lines c more)
 outline_lines c (Dashed first more) = item_lines c first (outline_lines (c + 2) first) ++ outline_lines c more
 outline_lines c (Anchored name o) = outline_lines c o
 
@@ -72,7 +89,8 @@ are_items (Anchored name o) = false
 abbrev pub IsOutline : Outline → Type 0
 IsOutline (Leaf v) = IsGoodValue v
 IsOutline End = Unit {0}
-IsOutline (Under key first more) = ((is_key key ≡ true) × (are_entries more ≡ true)) × (IsOutline first × IsOutline more)
+IsOutline (Under key first more) =
+    ((is_key key ≡ true) × (are_entries more ≡ true)) × (IsOutline first × IsOutline more)
 IsOutline (Dashed first more) = (are_items more ≡ true) × (IsOutline first × IsOutline more)
 IsOutline (Anchored name o) = (is_anchor name ≡ true) × IsOutline o
 

@@ -1,7 +1,8 @@
 use Rattle.std.proofs.Common.{sym, subst, arith}
 use Rattle.std.specs.List.{All}
+use Rattle.accepted_core.proofs.NumbersFacts.{criteria_is, grades_many}
 use Rattle.learn_core.specs.Numbers.{IsFirst}
-use Rattle.learn_core.proofs.RebuildFacts.{criteria_is, grades_many, rows_fit, firsts_many}
+use Rattle.learn_core.proofs.RebuildFacts.{rows_fit, firsts_many}
 use Rattle.sorting_rule.specs.Rebuilt.{Learns}
 use Rattle.model_core.specs.Model.{rule_of, Belongs}
 use Rattle.learn_core.proofs.ModelFacts.{made_learns, made_belongs}

@@ -1,11 +1,11 @@
 use Rattle.std.proofs.Common.{◌≡◌, ◌<◌, ◌≤◌, List, [], length, drop, arith, ap, subst}
 use Rattle.std.specs.Prelude.{All}
 use Rattle.std.proofs.lemmas.List.{drop_all, take_all}
-use Rattle.written_core.proofs.PutLemmas.{put-more, put-cut, put-all}
+use Rattle.written_core.proofs.PutLemmas.{put-more, put-cut, put-all, all-more}
 use Rattle.problem_core.specs.declared.criterion.Criterion.{Criterion}
 use Rattle.model_core.specs.declared.model.Profile.{Profile}
 use Rattle.model_text_core.specs.Parts.{accepted_text}
-use Rattle.model_text_core.proofs.RowTexts.{accepted-step, got-threshold, IsUtf8Criterion, utf8-more}
+use Rattle.model_text_core.proofs.RowTexts.{accepted-step, got-threshold, IsUtf8Criterion}
 use Rattle.model_text_core.proofs.accepted.put_accepted.Goals as goal
 
 pub put_criterion-requires : goal.put_criterion-requires
@@ -24,7 +24,7 @@ loop-i-preserved c =
     let within : c.loop-i.i < length criteria = omega arith in
     record {
       put = put-more _ _ _ _ _ _ _ c.loop-i.invariant.put step c.in_ok-put_criterion.ensures.text;
-      names = utf8-more criteria c.loop-i.i c.criterion.result.now c.loop-i.invariant.names within c.criterion.ensures c.in_ok-put_criterion.ensures.names;
+      names = all-more criteria c.loop-i.i IsUtf8Criterion c.criterion.result.now c.loop-i.invariant.names within c.criterion.ensures c.in_ok-put_criterion.ensures.names;
     }
 
 pub returns-clause-text : goal.returns-clause-text

@@ -1,18 +1,18 @@
 use Rattle.std.proofs.Common.{◌≡◌, ℕ, ◌+◌, ◌-◌, ◌/◌, ◌<◌, ◌≤◌, ◌++◌, List, codes, arith, subst, sym, ap, ◌∙◌}
 use Rattle.std.proofs.lemmas.Nat.{mod_below}
-use Rattle.lists_core.proofs.PutsFacts.{puts-cut, puts-failed}
 use Rattle.written_core.specs.Document.{Scalar}
-use Rattle.written_core.proofs.PutLemmas.{IsPut, put-none, put-more, put-last, put-cut, puts-as}
+use Rattle.written_core.proofs.PutLemmas.{IsPut, put-none, put-more, put-last, put-cut, puts-as, first-cut}
+use Rattle.written_core.specs.Parts.{left_text}
+use Rattle.written_core.proofs.FlowTexts.{flow-left, flow-put}
 use Rattle.model_text_core.specs.ModelText.{root_scalars}
-use Rattle.model_text_core.specs.Parts.{left_text, place_text}
-use Rattle.model_text_core.proofs.FlowTexts.{flow-left, flow-put}
+use Rattle.model_text_core.specs.Parts.{place_text}
 use Rattle.model_text_core.proofs.PlaceTexts.{places_left, places-item, places-end}
 use Rattle.model_text_core.proofs.places.put_places.Goals as goal
 
 pub returns-in_err-put_text : goal.returns-in_err-put_text
 returns-in_err-put_text c =
     let ss : List Scalar = root_scalars c.args.count c.args.set in
-    puts-as _ _ _ _ _ (flow-left ss) (puts-failed _ _ _ c.from_residual.result c.from_residual.ensures.0 (puts-cut _ _ (codes "[") (left_text 0 ss) c.in_err-put_text.ensures))
+    puts-as _ _ _ _ _ (flow-left ss) (first-cut _ _ (codes "[") (left_text 0 ss) c.from_residual.result c.from_residual.ensures.0 c.in_err-put_text.ensures)
 
 pub loop-place-init : goal.loop-place-init
 loop-place-init c =

@@ -1,7 +1,7 @@
 use Rattle.std.proofs.Common.{◌-◌, ◌≤◌}
 use Rattle.written_core.proofs.PutLemmas.{IsPut}
+use Rattle.written_core.specs.Parts.{left_text}
 use Rattle.model_text_core.specs.ModelText.{root_scalars}
-use Rattle.model_text_core.specs.Parts.{left_text}
 use Rattle.model_text_core.proofs.PlaceTexts.{places_left}
 use Rattle.model_text_core.proofs.places.put_places.Given as goal
 

@@ -1,7 +1,8 @@
 use Rattle.std.proofs.Common.{[], codes, arith}
-use Rattle.lists_core.proofs.PutsFacts.{puts-then, puts-cut, puts-failed}
-use Rattle.model_text_core.specs.Parts.{row, roots_text}
-use Rattle.written_core.proofs.PutLemmas.{puts-as}
+use Rattle.lists_core.proofs.PutsFacts.{puts-then}
+use Rattle.written_core.specs.Parts.{row}
+use Rattle.model_text_core.specs.Parts.{roots_text}
+use Rattle.written_core.proofs.PutLemmas.{puts-as, first-cut}
 use Rattle.model_text_core.proofs.PutFacts.{upset-none, upset-some}
 use Rattle.model_text_core.proofs.roots.put_upset.Goals as goal
 
@@ -11,7 +12,7 @@ returns-then-rows-eq0 c = puts-as _ _ _ _ _ (upset-none c.args.count c.args.root
 pub returns-in_err-put_text : goal.returns-in_err-put_text
 returns-in_err-put_text c =
     puts-as _ _ _ _ _ (upset-some c.args.count c.args.roots.now (omega (arith, c.if-rows-eq0.false)))
-    (puts-failed _ _ _ c.from_residual.result c.from_residual.ensures.0 (puts-cut _ _ (row (codes "    upset_roots:") []) (roots_text c.args.count c.args.roots.now) c.in_err-put_text.ensures))
+    (first-cut _ _ (row (codes "    upset_roots:") []) (roots_text c.args.count c.args.roots.now) c.from_residual.result c.from_residual.ensures.0 c.in_err-put_text.ensures)
 
 pub returns : goal.returns
 returns c =

@@ -3,7 +3,7 @@ use Rattle.model_core.specs.Model.{IsThreshold}
 use Rattle.written_core.specs.Document.{scalar_text}
 use Rattle.model_text_core.specs.ModelText.{threshold_scalar}
 use Rattle.written_core.proofs.PutLemmas.{puts-as}
-use Rattle.model_text_core.proofs.FlowTexts.{grade-scalar}
+use Rattle.model_text_core.proofs.PutFacts.{grade-scalar}
 use Rattle.model_text_core.proofs.thresholds.put_threshold.Goals as goal
 
 pub put_quoted_grade-requires : goal.put_quoted_grade-requires

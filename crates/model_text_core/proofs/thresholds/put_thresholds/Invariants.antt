@@ -1,7 +1,7 @@
 use Rattle.std.proofs.Common.{drop, map}
 use Rattle.written_core.proofs.PutLemmas.{IsPut}
+use Rattle.written_core.specs.Parts.{left_text}
 use Rattle.model_text_core.specs.ModelText.{threshold_scalar}
-use Rattle.model_text_core.specs.Parts.{left_text}
 use Rattle.model_text_core.proofs.thresholds.put_thresholds.Given as goal
 
 -- the items before a place were appended

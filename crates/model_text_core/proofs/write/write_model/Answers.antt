@@ -1,8 +1,9 @@
 use Rattle.std.proofs.Common.{◌≡◌, ℕ, List, [], ◌++◌, codes, length, ap, sym, ◌∙◌}
-use Rattle.lists_core.proofs.PutsFacts.{puts-then, puts-cut, puts-failed}
-use Rattle.written_core.proofs.PutLemmas.{puts-as}
+use Rattle.lists_core.proofs.PutsFacts.{puts-then}
+use Rattle.written_core.proofs.PutLemmas.{puts-as, first-cut}
+use Rattle.written_core.specs.Parts.{row}
 use Rattle.model_text_core.specs.ModelText.{ReadsBack}
-use Rattle.model_text_core.specs.Parts.{row, head_text, accepted_text, coalitions_text}
+use Rattle.model_text_core.specs.Parts.{head_text, accepted_text, coalitions_text}
 use Rattle.model_text_core.proofs.ModelText.{problem-reads-back}
 use Rattle.model_text_core.proofs.PartTexts.{model_text-parts}
 use Rattle.model_text_core.proofs.RowTexts.{on-ok}
@@ -17,7 +18,7 @@ returns-in_err-put_text-clause-text c =
     let r = c.from_residual.result in
     let more : List ℕ = accepted_text c.args.problem.now.criteria c.args.model.now.profiles ++ (key ++ coalitions_text (length c.args.problem.now.criteria) c.args.model.now.coalitions) in
     puts-as _ _ r _ _ (model_text-parts c.args.problem.now c.args.model.now c.criteria_count-count.ensures.facts c.requires)
-    (puts-failed _ _ _ r c.from_residual.ensures.0 (puts-cut _ _ head_text more c.in_err-put_text.ensures))
+    (first-cut _ _ head_text more r c.from_residual.ensures.0 c.in_err-put_text.ensures)
 
 pub returns-in_err-put_accepted-clause-text : goal.returns-in_err-put_accepted-clause-text
 returns-in_err-put_accepted-clause-text c =
@@ -26,7 +27,7 @@ returns-in_err-put_accepted-clause-text c =
     let more : List ℕ = key ++ coalitions_text (length c.args.problem.now.criteria) c.args.model.now.coalitions in
     puts-as _ _ r _ _ (model_text-parts c.args.problem.now c.args.model.now c.criteria_count-count.ensures.facts c.requires)
     (puts-then _ _ head_text c.in_ok-put_text.ensures _ (accepted ++ more) r
-    (puts-failed _ _ _ r c.from_residual-in_err-put_accepted.ensures.0 (puts-cut _ _ accepted more c.in_err-put_accepted.ensures.text)))
+    (first-cut _ _ accepted more r c.from_residual-in_err-put_accepted.ensures.0 c.in_err-put_accepted.ensures.text))
 
 pub returns-in_err-put_text-2-clause-text : goal.returns-in_err-put_text-2-clause-text
 returns-in_err-put_text-2-clause-text c =
@@ -36,7 +37,7 @@ returns-in_err-put_text-2-clause-text c =
     puts-as _ _ r _ _ (model_text-parts c.args.problem.now c.args.model.now c.criteria_count-count.ensures.facts c.requires)
     (puts-then _ _ head_text c.in_ok-put_text.ensures _ (accepted ++ (key ++ coalitions)) r
     (puts-then _ _ accepted c.in_ok-put_accepted.ensures.text _ (key ++ coalitions) r
-    (puts-failed _ _ _ r c.from_residual-in_err-put_text-2.ensures.0 (puts-cut _ _ key coalitions c.in_err-put_text-2.ensures))))
+    (first-cut _ _ key coalitions r c.from_residual-in_err-put_text-2.ensures.0 c.in_err-put_text-2.ensures)))
 
 pub returns-clause-text : goal.returns-clause-text
 returns-clause-text c =

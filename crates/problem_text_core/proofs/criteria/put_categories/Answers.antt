@@ -2,9 +2,8 @@ use Rattle.std.proofs.Common.{◌<◌, ◌≤◌, length, arith, subst}
 use Rattle.std.specs.Prelude.{All}
 use Rattle.std.specs.Str.{IsUtf8}
 use Rattle.std.proofs.lemmas.List.{take_all}
-use Rattle.written_core.proofs.PutLemmas.{put-more, put-cut, put-all}
+use Rattle.written_core.proofs.PutLemmas.{put-more, put-cut, put-all, all-more, texts-item, texts-end}
 use Rattle.problem_text_core.specs.Parts.{name_row}
-use Rattle.problem_text_core.proofs.PutFacts.{all-more, texts-item, texts-end}
 use Rattle.problem_text_core.proofs.criteria.put_categories.Goals as goal
 
 pub returns-in_err-put_name_line-clause-text : goal.returns-in_err-put_name_line-clause-text

@@ -1,8 +1,7 @@
 use Rattle.std.proofs.Common.{List, ℕ, ◌++◌, ap, sym}
 use Rattle.lists_core.proofs.PutsFacts.{puts-then}
-use Rattle.written_core.proofs.PutLemmas.{puts-as}
+use Rattle.written_core.proofs.PutLemmas.{puts-as, first-cut}
 use Rattle.problem_text_core.specs.Parts.{name_row, scale_text}
-use Rattle.problem_text_core.proofs.PutFacts.{first-cut}
 use Rattle.problem_text_core.proofs.criteria.put_criterion.Goals as goal
 
 pub returns-in_err-put_name_line-clause-text : goal.returns-in_err-put_name_line-clause-text

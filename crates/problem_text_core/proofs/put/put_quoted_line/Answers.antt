@@ -1,7 +1,7 @@
 use Rattle.std.proofs.Common.{◌++◌, codes}
 use Rattle.lists_core.proofs.PutsFacts.{puts-then}
 use Rattle.yaml_tokens.specs.Written.{quoted_text}
-use Rattle.problem_text_core.proofs.PutFacts.{first-cut}
+use Rattle.written_core.proofs.PutLemmas.{first-cut}
 use Rattle.problem_text_core.proofs.put.put_quoted_line.Goals as goal
 
 pub returns-in_err-put_text-clause-text : goal.returns-in_err-put_text-clause-text

@@ -1,6 +1,6 @@
 use Rattle.std.proofs.Common.{◌++◌, codes}
 use Rattle.lists_core.proofs.PutsFacts.{puts-then}
-use Rattle.problem_text_core.proofs.PutFacts.{first-cut}
+use Rattle.written_core.proofs.PutLemmas.{first-cut}
 use Rattle.problem_text_core.proofs.put.put_word_line.Goals as goal
 
 pub returns-in_err-put_text : goal.returns-in_err-put_text

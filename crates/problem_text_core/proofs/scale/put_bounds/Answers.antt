@@ -1,8 +1,8 @@
 use Rattle.std.proofs.Common.{codes}
 use Rattle.fixed_core.specs.Spelling.{spelling}
 use Rattle.lists_core.proofs.PutsFacts.{puts-then}
+use Rattle.written_core.proofs.PutLemmas.{first-cut}
 use Rattle.problem_text_core.specs.Parts.{key_row}
-use Rattle.problem_text_core.proofs.PutFacts.{first-cut}
 use Rattle.problem_text_core.proofs.scale.put_bounds.Goals as goal
 
 pub returns-in_err-put_number_line-clause-text : goal.returns-in_err-put_number_line-clause-text

@@ -1,10 +1,11 @@
 use Rattle.std.proofs.Common.{List, ℕ, ◌++◌, codes}
 use Rattle.lists_core.proofs.PutsFacts.{puts-then}
-use Rattle.problem_text_core.specs.Parts.{row, flow_names}
-use Rattle.problem_text_core.proofs.PutFacts.{first-cut}
+use Rattle.written_core.specs.Parts.{row}
+use Rattle.written_core.proofs.PutLemmas.{first-cut}
+use Rattle.problem_text_core.specs.Parts.{flow_names}
 use Rattle.problem_text_core.proofs.scale.put_enumerated.Goals as goal
 
--- what stands before the names
+-- what is before the names
 abbrev before : List ℕ
 before = row (codes "    value_type: enumerated") (codes "    ordered_values: ")
 

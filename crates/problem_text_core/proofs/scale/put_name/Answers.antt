@@ -1,5 +1,5 @@
 use Rattle.lists_core.proofs.PutsFacts.{puts-then}
-use Rattle.problem_text_core.proofs.PutFacts.{first-cut}
+use Rattle.written_core.proofs.PutLemmas.{first-cut}
 use Rattle.problem_text_core.proofs.scale.put_name.Goals as goal
 
 pub returns-in_err-put_comma : goal.returns-in_err-put_comma

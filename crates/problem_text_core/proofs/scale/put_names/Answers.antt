@@ -1,8 +1,8 @@
 use Rattle.std.proofs.Common.{◌≤◌, List, length, map, codes, arith}
 use Rattle.written_core.specs.Document.{Scalar, Text}
-use Rattle.written_core.proofs.PutLemmas.{put-none, put-more, put-last, put-cut, puts-as}
-use Rattle.problem_text_core.specs.Parts.{left_text}
-use Rattle.problem_text_core.proofs.PutFacts.{first-cut, flow-left, flow-put, left-item, left-end}
+use Rattle.written_core.proofs.PutLemmas.{put-none, put-more, put-last, put-cut, puts-as, first-cut, drop_got}
+use Rattle.written_core.specs.Parts.{left_text}
+use Rattle.written_core.proofs.FlowTexts.{flow-left, flow-put, left-item, left-end}
 use Rattle.problem_text_core.proofs.scale.put_names.Goals as goal
 
 pub returns-in_err-put_text-clause-text : goal.returns-in_err-put_text-clause-text
@@ -17,11 +17,11 @@ pub returns-in_err-put_name-clause-text : goal.returns-in_err-put_name-clause-te
 returns-in_err-put_name-clause-text c =
     let r = c.from_residual-in_err-put_name.result in
     flow-put _ _ _ (map Text c.args.names.now) r c.in_ok-put_text.ensures
-    (put-cut _ _ _ _ _ _ _ r c.from_residual-in_err-put_name.ensures.0 c.loop-place.invariant (left-item (λ t. Text t) c.args.names.now c.loop-place.place c.get.result.now c.get.ensures) c.in_err-put_name.ensures)
+    (put-cut _ _ _ _ _ _ _ r c.from_residual-in_err-put_name.ensures.0 c.loop-place.invariant (left-item (λ t. Text t) c.args.names.now c.loop-place.place c.get.result.now (drop_got c.args.names.now c.loop-place.place c.get.result.now c.get.ensures)) c.in_err-put_name.ensures)
 
 pub loop-place-preserved : goal.loop-place-preserved
 loop-place-preserved c =
-    put-more _ _ _ _ _ _ _ c.loop-place.invariant (left-item (λ t. Text t) c.args.names.now c.loop-place.place c.get.result.now c.get.ensures) c.in_ok-put_name.ensures
+    put-more _ _ _ _ _ _ _ c.loop-place.invariant (left-item (λ t. Text t) c.args.names.now c.loop-place.place c.get.result.now (drop_got c.args.names.now c.loop-place.place c.get.result.now c.get.ensures)) c.in_ok-put_name.ensures
 
 pub returns-clause-text : goal.returns-clause-text
 returns-clause-text c =

@@ -1,7 +1,7 @@
 use Rattle.std.proofs.Common.{drop, map}
 use Rattle.written_core.specs.Document.{Text}
 use Rattle.written_core.proofs.PutLemmas.{IsPut}
-use Rattle.problem_text_core.specs.Parts.{left_text}
+use Rattle.written_core.specs.Parts.{left_text}
 use Rattle.problem_text_core.proofs.scale.put_names.Given as goal
 
 -- the names before a place were appended

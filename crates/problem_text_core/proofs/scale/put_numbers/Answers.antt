@@ -1,8 +1,7 @@
 use Rattle.std.proofs.Common.{List, ℕ, ◌++◌, codes, ap, sym}
 use Rattle.lists_core.proofs.PutsFacts.{puts-then}
-use Rattle.written_core.proofs.PutLemmas.{puts-as}
+use Rattle.written_core.proofs.PutLemmas.{puts-as, first-cut}
 use Rattle.problem_text_core.specs.Parts.{key_row, bounds_text}
-use Rattle.problem_text_core.proofs.PutFacts.{first-cut}
 use Rattle.problem_text_core.proofs.scale.put_numbers.Goals as goal
 
 -- the rows of a type, of a direction, and what follows

@@ -1,11 +1,11 @@
 use Rattle.std.proofs.Common.{List, ℕ, [], ◌++◌, codes}
 use Rattle.std.specs.Prelude.{Result, Ok, Err, OnOk}
 use Rattle.lists_core.proofs.PutsFacts.{puts-then}
-use Rattle.written_core.proofs.PutLemmas.{puts-as}
-use Rattle.problem_text_core.specs.Parts.{row, head_text, criteria_text, categories_text}
+use Rattle.written_core.proofs.PutLemmas.{puts-as, first-cut}
+use Rattle.written_core.specs.Parts.{row}
+use Rattle.problem_text_core.specs.Parts.{head_text, criteria_text, categories_text}
 use Rattle.problem_text_core.proofs.PartTexts.{problem_text-parts}
 use Rattle.problem_text_core.proofs.ProblemText.{problem-reads-back}
-use Rattle.problem_text_core.proofs.PutFacts.{first-cut}
 use Rattle.problem_text_core.proofs.write.write_problem.Goals as goal
 
 -- the row of the key of the categories

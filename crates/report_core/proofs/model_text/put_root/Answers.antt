@@ -1,6 +1,7 @@
 use Rattle.std.proofs.Common.{ℕ, List, ◌++◌, refl}
 use Rattle.written_core.proofs.PutLemmas.{IsPut, put-none, put-more, put-cut, put-last}
-use Rattle.report_core.specs.Text.{comma, item_text}
+use Rattle.written_core.specs.Parts.{comma}
+use Rattle.report_core.specs.Text.{item_text}
 use Rattle.report_core.specs.DescribedModel.{places_text}
 use Rattle.report_core.proofs.model_text.put_root.Goals as goal
 

@@ -1,6 +1,7 @@
 use Rattle.std.proofs.Common.{ℕ, List, ◌++◌, refl}
 use Rattle.written_core.proofs.PutLemmas.{IsPut, put-none, put-more, put-cut, put-last}
-use Rattle.report_core.specs.Text.{comma, item_text}
+use Rattle.written_core.specs.Parts.{comma}
+use Rattle.report_core.specs.Text.{item_text}
 use Rattle.yaml_tokens.specs.Written.{quoted_text}
 use Rattle.report_core.proofs.problem_text.put_name.Goals as goal
 

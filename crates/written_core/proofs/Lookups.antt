@@ -1,13 +1,12 @@
--- What stands in nodes that were made.
-use Rattle.std.proofs.Common.{◌≡◌, ℕ, true, List, [], ◌∷◌, map, refl, ap, ◌∙◌, Option, Some, None}
+-- What is in nodes that were made.
+use Rattle.std.proofs.Common.{◌≡◌, ℕ, List, [], ◌∷◌, map, refl, ap, ◌∙◌, Option, Some, None}
 use Rattle.std.specs.Prelude.{option_and_then, if◌then◌else◌}
 use Rattle.std.specs.Str.{bytes_eq}
 use Rattle.yaml_core.specs.declared.node.Node.{Node}
 use Rattle.yaml_core.specs.declared.node.Node.TheVariants as node
-use Rattle.yaml_core.specs.declared.node.Pair.{Pair, out-Pair, out-roll-Pair}
+use Rattle.yaml_core.specs.declared.node.Pair.{out-Pair, out-roll-Pair}
 use Rattle.yaml_core.specs.Lookup.{text_in, text_at, list_in, list_of, unless_null_in, unless_null, value_among, value_in, value_at}
 use Rattle.yaml_core.specs.Measured.{Entry, pair_of, map_node}
-use Rattle.problem_core.specs.Tree.{is_map_in, is_map, items_under, is_text, says, text_under}
 
 pub text-Scalar : (t : List ℕ) → text_at (node.Scalar t) ≡ Some t
 text-Scalar t = ap text_in (node.outs-Scalar t)
@@ -15,7 +14,7 @@ text-Scalar t = ap text_in (node.outs-Scalar t)
 pub text-Quoted : (t : List ℕ) → text_at (node.Quoted t) ≡ Some t
 text-Quoted t = ap text_in (node.outs-Quoted t)
 
-list-List : (ns : List Node) → list_of (node.List ns) ≡ Some ns
+pub list-List : (ns : List Node) → list_of (node.List ns) ≡ Some ns
 list-List ns = ap list_in (node.outs-List ns)
 
 pub some-Scalar : (t : List ℕ) → unless_null (node.Scalar t) ≡ Some (node.Scalar t)
@@ -26,9 +25,6 @@ some-Quoted t = ap (unless_null_in (node.Quoted t)) (node.outs-Quoted t)
 
 pub some-List : (ns : List Node) → unless_null (node.List ns) ≡ Some (node.List ns)
 some-List ns = ap (unless_null_in (node.List ns)) (node.outs-List ns)
-
-pub map-Map : (ps : List Pair) → is_map (node.Map ps) ≡ true
-map-Map ps = ap is_map_in (node.outs-Map ps)
 
 -- the node under a key, unless it is null
 abbrev pub found : List ℕ → List Entry → Option Node
@@ -46,14 +42,11 @@ pub value-Map : (key : List ℕ) (es : List Entry) → value_at key (map_node es
 value-Map key es = ap (value_in key) (node.outs-Map (map pair_of es)) ∙ among-found key es
 
 -- a text and a list under a key
-pub word-under : (key : List ℕ) (es : List Entry) (t : List ℕ) → found key es ≡ Some (node.Scalar t) → text_under key (map_node es).node ≡ Some t
+pub word-under : (key : List ℕ) (es : List Entry) (t : List ℕ) → found key es ≡ Some (node.Scalar t) → option_and_then text_at (value_at key (map_node es).node) ≡ Some t
 word-under key es t h = ap (option_and_then text_at) (value-Map key es ∙ h) ∙ text-Scalar t
 
-pub quoted-under : (key : List ℕ) (es : List Entry) (t : List ℕ) → found key es ≡ Some (node.Quoted t) → text_under key (map_node es).node ≡ Some t
+pub quoted-under : (key : List ℕ) (es : List Entry) (t : List ℕ) → found key es ≡ Some (node.Quoted t) → option_and_then text_at (value_at key (map_node es).node) ≡ Some t
 quoted-under key es t h = ap (option_and_then text_at) (value-Map key es ∙ h) ∙ text-Quoted t
 
-pub says-word : (key words : List ℕ) (es : List Entry) (t : List ℕ) → found key es ≡ Some (node.Scalar t) → says key words (map_node es).node ≡ bytes_eq t words
-says-word key words es t h = ap (is_text words) (word-under key es t h)
-
-pub items-list : (key : List ℕ) (es : List Entry) (ns : List Node) → found key es ≡ Some (node.List ns) → items_under key (map_node es).node ≡ Some ns
-items-list key es ns h = ap (option_and_then list_of) (value-Map key es ∙ h) ∙ list-List ns
+pub list-under : (key : List ℕ) (es : List Entry) (ns : List Node) → found key es ≡ Some (node.List ns) → option_and_then list_of (value_at key (map_node es).node) ≡ Some ns
+list-under key es ns h = ap (option_and_then list_of) (value-Map key es ∙ h) ∙ list-List ns
