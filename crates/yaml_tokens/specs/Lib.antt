@@ -1,4 +1,5 @@
 pub mod Results
+pub mod Texts
 pub mod Quotes
 pub mod Quoted
 pub mod Tokens

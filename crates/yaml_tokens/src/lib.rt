@@ -9,6 +9,8 @@ mod lines;
 mod name;
 mod plain;
 mod quoted;
+#[cfg(test)]
+mod tests;
 mod text;
 mod token;
 mod written;
