@@ -19,11 +19,12 @@ loop-key-preserved c =
     let value = c.value.inside in
     let kept : KeepsNode value.node value.levels value.nodes e.1 = rw c.value.view_is at c.value.invariant in
     let keeps = rw c.pair_of.ensures at c.in_ok-all.ensures.kept in
+    let out = rw (c.pair_of.ensures, c.saturating_add-nodes.ensures) at c.in_ok-all.ensures.left_out in
     let step = c.in-Some.ensures.steps in (
       done ++ e ∷ [],
       append_assoc done (e ∷ []) (into_iter_items c.next.new.self) ∙ ap (λ it. done ++ it) (sym step.0) ∙ c.loop-key.invariant.1,
       omega (arith, step.1, ap length step.0, c.loop-key.invariant.2),
-      rw (c.max-levels.ensures, c.saturating_add-nodes.ensures) (keeps-entry c.loop-key.all c.in_ok-all.all value.node done e c.loop-key.invariant.3 kept keeps),
+      rw (c.max-levels.ensures, c.saturating_add-nodes.ensures) (keeps-entry c.loop-key.all c.in_ok-all.all value.node done e c.loop-key.invariant.3 kept keeps out),
     )
 
 pub returns : goal.returns

@@ -9,5 +9,5 @@ pub invariant_of-result : goal.invariant_of-result
 invariant_of-result c =
     let paired = c.in_ok-paired.paired in
     let kept = subst (λ (es : List Entry). KeepsNodes paired.all paired.levels paired.nodes (map pair_of es) (values_of es)) c.into_entries.ensures.entries c.in_ok-paired.ensures in
-    rw (c.map_of.ensures, c.saturating_add.ensures, c.saturating_add-2.ensures, c.of-note.ensures)
+    rw (c.in_ok-node.ensures, c.saturating_add.ensures, c.saturating_add-2.ensures, c.of-note.ensures)
     (keeps-map paired.all c.args.entries kept c.into_entries.ensures.distinct)
