@@ -70,7 +70,7 @@ kept-more : {A : Type 0} {c d n : ℕ} (held after : Option (List A)) (more : Op
     → IsKept held c whole → IsKept more d one → KeepsMore held more after → (after ≡ None → IsLeftOut held more n) → IsKept after n (whole ++ one ∷ [])
 kept-more {c = c} {d = d} {n = n} held None more whole one p q k l m out =
     elim (out refl) [
-      inl none ↦ let h : most_nodes < c = many held whole k none in omega arith
+      | inl none ↦ let h : most_nodes < c = many held whole k none in omega arith
       | inr other ↦ elim other [ inl none ↦ (let h : most_nodes < d = many more one l none in omega arith) | inr over ↦ over ]
     ]
 kept-more None (Some x) None whole one p q k l m out = absurd m

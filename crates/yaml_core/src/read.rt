@@ -29,7 +29,8 @@ pub fn read_yaml(alloc: Global, bytes: &[u8]) -> Result<Node, YamlFault>
     requires { length bytes.now ≤ MOST_BYTES }
     ensures levels { IfOk result (λ tree. node_height tree ≤ max_levels) }
     ensures keys { IfOk result (λ tree. HasDistinctKeys tree) }
-    ensures answer { MatchResult result (λ tree. reading bytes.now ≡ Ok tree) (λ fault. (fault ≡ YamlFault.NoMemory) ⊎ (reading bytes.now ≡ Err fault)) }
+    ensures answer { MatchResult result (λ tree. reading bytes.now ≡ Ok tree)
+        (λ fault. (fault ≡ YamlFault.NoMemory) ⊎ (reading bytes.now ≡ Err fault)) }
 {
     let Ok(text) = str::from_utf8(bytes) else {
         return Err(YamlFault::NotUtf8);

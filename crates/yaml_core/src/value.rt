@@ -1,20 +1,21 @@
 //! Nodes while they are built, with their numbers of levels and of nodes.
 ghost use Rattle.std.specs.Prelude.{◌≡◌, ◌≤◌, ◌++◌, ◌∷◌, [], map, option_map, IfOk, nat_le, Some, None};
-ghost use Rattle.yaml_core.specs.Measured.{leaf, list_node, map_node, pair, pair_of, Entry};
+ghost use Rattle.yaml_core.specs.Measured.{leaf, list_node, map_node, pair, add_entry};
 ghost use Rattle.yaml_core.specs.Keys.{HasDistinctKeys};
-ghost use Rattle.yaml_core.specs.Kept.{IsLeftOut, KeepsMore, KeepsNodes};
+ghost use Rattle.yaml_core.specs.Kept.{IsLeftOut, KeepsMore};
 ghost use Rattle.yaml_core.specs.Read.{within_limit};
 ghost use Rattle.yaml_core.specs.Size.{node_height};
+ghost use Rattle.yaml_core.specs.Stack.{Gives};
 ghost use Rattle.yaml_core.specs.Tree.{max_levels};
 
-use crate::entries::Entries;
 use crate::fault::YamlFault;
 use crate::growing::Growing;
 use crate::node::{Node, Pair, node_again};
 use crate::shared::Shared;
 use crate::size::MOST_NODES;
-use crate::value_note::{Gathered, Origin, ValueNote, ValuesNote};
+use crate::value_note::{Entered, EntriesNote, Gathered, Origin, ValueNote, ValuesNote};
 use std::alloc::{AllocError, Global};
+use std::collections::BTreeSet;
 use std::marker::Model;
 use yaml_tokens::Text;
 
@@ -65,12 +66,30 @@ impl Model for Values {
     ghost invariant = { λ v. KeepsNodes v.all v.levels v.nodes (map (λ m. m.node) v.note.measured) v.note.measured };
 }
 
-/// The pairs of a mapping as far as they are kept, with the levels and the nodes of their values.
+/// Entries in order, while a mapping is read. Contracts see their list. Each key is held twice: in the pair that
+/// the mapping gets, and in the set of keys that finds an equal one.
 #[derive(Drop)]
-struct Paired {
+pub struct Mapping {
     all: Option<Growing<Pair>>,
+    keys: BTreeSet<String>,
     levels: u8,
     nodes: u32,
+    note: EntriesNote,
+}
+
+impl Model for Mapping {
+    ghost use Rattle.std.specs.Prelude.{List};
+    ghost use Rattle.std.specs.Coded.{coded_list};
+    ghost use Rattle.yaml_core.specs.Measured.{Entry, entry_code};
+    ghost use Rattle.yaml_core.specs.Kept.{KeepsEntries};
+
+    ghost Value = { List Entry };
+
+    ghost coded = { coded_list entry_code };
+
+    ghost view = { λ v. v.note.entries };
+
+    ghost invariant = { λ v. KeepsEntries v.all v.keys v.levels v.nodes v.note.entries };
 }
 
 /// What was kept with one more, if that is kept too and there are at most [`MOST_NODES`] nodes.
@@ -125,22 +144,6 @@ fn pair_of(key: Text, node: Option<Node>) -> Option<Pair>
     }
 }
 
-/// The pairs of the entries.
-fn pairs_of(alloc: Global, entries: Vec<(Text, Value)>) -> Result<Paired, AllocError>
-    ensures { IfOk result (λ paired. KeepsNodes paired.all paired.levels paired.nodes (map pair_of entries.items) (map (λ (e : Entry). e.1) entries.items)) }
-{
-    let none = Growing::with_room(alloc, entries.len())?;
-    let mut all = Some(none);
-    let mut levels: u8 = 0;
-    let mut nodes: u32 = 0;
-    for (key, value) in entries {
-        levels = levels.max(value.levels);
-        nodes = value.nodes.saturating_add(nodes);
-        all = kept_with(all, pair_of(key, value.node), nodes)?;
-    }
-    Ok(Paired { all, levels, nodes })
-}
-
 impl Value {
     /// No value.
     pub fn null() -> Self
@@ -193,16 +196,15 @@ impl Value {
         })
     }
 
-    /// A mapping.
-    pub fn map(alloc: Global, entries: Entries) -> Result<Self, AllocError>
-        ensures { IfOk result (λ value. value ≡ map_node entries) }
+    /// A mapping. Takes constant time and memory, besides the time to drop the set of keys.
+    pub fn map(alloc: Global, mapping: Mapping) -> Result<Self, AllocError>
+        ensures { IfOk result (λ value. value ≡ map_node mapping) }
     {
-        let note = ValueNote::of(&Origin::Map(&entries));
-        let paired = pairs_of(alloc, entries.into_entries())?;
+        let note = ValueNote::of(&Origin::Map(&mapping));
         Ok(Value {
-            node: map_of(alloc, paired.all)?,
-            levels: paired.levels.saturating_add(1),
-            nodes: paired.nodes.saturating_add(1),
+            node: map_of(alloc, mapping.all)?,
+            levels: mapping.levels.saturating_add(1),
+            nodes: mapping.nodes.saturating_add(1),
             note,
         })
     }
@@ -272,6 +274,49 @@ impl Values {
         let all = kept_with(self.all, value.node, nodes)?;
         Ok(Values {
             all,
+            levels,
+            nodes,
+            note,
+        })
+    }
+}
+
+impl Mapping {
+    /// No entry. Takes no memory.
+    pub fn new(alloc: Global) -> Self
+        ensures { result ≡ [] }
+    {
+        Mapping {
+            all: Some(Growing::new(alloc)),
+            keys: BTreeSet::new(alloc),
+            levels: 0,
+            nodes: 0,
+            note: EntriesNote::of(&Entered::Nothing),
+        }
+    }
+
+    /// The entries with one more; `Form` if the key is there already, which takes logarithmic time to find out.
+    /// The pairs are kept while their values have at most [`MOST_NODES`] nodes.
+    pub fn add(self, alloc: Global, key: Text, value: Value) -> Result<Self, YamlFault>
+        ensures { Gives result (add_entry self key value) }
+    {
+        let note = EntriesNote::of(&Entered::More(&self, &key, &value));
+        let Mapping {
+            all,
+            mut keys,
+            levels,
+            nodes,
+            note: _,
+        } = self;
+        if !keys.insert(String::from_str(alloc, key.as_str())?)? {
+            return Err(YamlFault::Form);
+        }
+        let levels = levels.max(value.levels);
+        let nodes = value.nodes.saturating_add(nodes);
+        let all = kept_with(all, pair_of(key, value.node), nodes)?;
+        Ok(Mapping {
+            all,
+            keys,
             levels,
             nodes,
             note,
