@@ -1,6 +1,6 @@
--- The entries of a mapping as they are found by key.
+-- Entries as they are found by key.
 use Rattle.std.proofs.Common.{◌≡◌, ℕ, suc, ◌<◌, Bool, true, false, cond, ◌||◌, List, [], ◌∷◌, ◌++◌, map, length, get_or, refl, ap, sym, ◌∙◌, arith, Option, Some, None, ◌⊎◌, inl, inr, ⊎_elim}
-use Rattle.std.specs.Prelude.{is_some, option_map, not, ◌&&◌}
+use Rattle.std.specs.Prelude.{is_some, option_map}
 use Rattle.std.specs.List.{list_any}
 use Rattle.std.specs.Str.{bytes_eq}
 use Rattle.std.specs.Map.{update}
@@ -15,9 +15,8 @@ use Rattle.std.specs.declared.string.String.{String}
 use Rattle.std.proofs.lemmas.Map.Text.{btree_map_updates_text}
 use Rattle.yaml_core.specs.Entries.{place_of, IsIndexed}
 use Rattle.yaml_core.specs.Measured.{Measured, Entry, find_entry, add_entry}
-use Rattle.yaml_core.specs.Keys.{are_distinct}
 
-abbrev key_in : List ℕ → List Entry → Bool
+abbrev pub key_in : List ℕ → List Entry → Bool
 key_in key es = list_any (λ e. bytes_eq key e.0) es
 
 is_some-place : (b : Bool) (o : Option ℕ) → is_some (cond b (Some 0) (option_map (λ n. suc n) o)) ≡ (b || is_some o)
@@ -86,7 +85,7 @@ place-there key (x ∷ es) e n some =
     rw (there.1, place-there key es e there.0 there.2, there.3) refl)
     (place-some (bytes_eq key x.0) (place_of key es) n some)
 
-by_bool : {P : Type 0} (b : Bool) → (b ≡ true → P) → (b ≡ false → P) → P
+pub by_bool : {P : Type 0} (b : Bool) → (b ≡ true → P) → (b ≡ false → P) → P
 by_bool true t f = t refl
 by_bool false t f = f refl
 
@@ -97,7 +96,7 @@ by_place (Some n) t f = f n refl
 same-bytes : (a : List ℕ) → bytes_eq a a ≡ true
 same-bytes a = (bytes_eq-Decides a a).1 refl
 
-apart : (a b : List ℕ) → bytes_eq a b ≡ false → bytes_eq b a ≡ false
+pub apart : (a b : List ℕ) → bytes_eq a b ≡ false → bytes_eq b a ≡ false
 apart a b h = by_bool (bytes_eq b a)
     (λ t. let same : b ≡ a = (bytes_eq-Decides b a).0 t in let hit : bytes_eq a b ≡ true = (bytes_eq-Decides a b).1 (sym same) in absurd (cc))
     (λ f. f)
@@ -112,30 +111,6 @@ place-more key q m es none = by_bool (bytes_eq key q)
     (λ absent. absent ∙ sym (place-new q es (key, m) absent ∙ rw (apart key q f) refl))
     (λ n there. there ∙ sym (place-there q es (key, m) n there))))
 
-or-false : (a b : Bool) → (a || b) ≡ false → (a ≡ false) × (b ≡ false)
-or-false true b e = absurd (cc)
-or-false false b e = (refl, e)
-
-abbrev keys_of : List Entry → List (List ℕ)
-keys_of es = map (λ (e : Entry). e.0) es
-
-none-more : (k : List ℕ) (es : List Entry) (e : Entry) → list_any (bytes_eq k) (keys_of es) ≡ false → bytes_eq k e.0 ≡ false → list_any (bytes_eq k) (keys_of (es ++ e ∷ [])) ≡ false
-none-more k [] e none other = rw other refl
-none-more k (x ∷ es) e none other =
-    let h = or-false (bytes_eq k x.0) (list_any (bytes_eq k) (keys_of es)) none in rw (h.0, none-more k es e h.1 other) refl
-
-and-true : (a b : Bool) → (not a && b) ≡ true → (a ≡ false) × (b ≡ true)
-and-true true b e = absurd (cc)
-and-true false b e = (refl, e)
-
--- a new key leaves the keys distinct
-pub distinct-more : (es : List Entry) (e : Entry) → are_distinct (keys_of es) ≡ true → place_of e.0 es ≡ None → are_distinct (keys_of (es ++ e ∷ [])) ≡ true
-distinct-more [] e d none = refl
-distinct-more (x ∷ es) e d none =
-    let p = place-none (bytes_eq e.0 x.0) (place_of e.0 es) none in
-    let h = and-true (list_any (bytes_eq x.0) (keys_of es)) (are_distinct (keys_of es)) d in
-    rw (none-more x.0 es e h.0 (apart e.0 x.0 p.0), distinct-more es e h.1 p.1) refl
-
 -- ---- the map of places
 
 pub none-from : (o : Option ℕ) → is_some o ≡ false → o ≡ None
@@ -148,7 +123,5 @@ some-from (Some n) e = (n, refl)
 
 pub index-more : (before after : BTreeMap (String Global) ℕ) (es : List Entry) (key : List ℕ) (m : Measured) → IsIndexed before es → place_of key es ≡ None
     → UpdatesBy string_cmp (λ k. slice_cmp nat_cmp key (string_bytes k)) before after (Some (length es)) → IsIndexed after (es ++ (key, m) ∷ [])
-index-more before after es key m h none u = record {
-  places = λ q. btree_map_updates_text key before after (Some (length es)) u q ∙ (λ i. update bytes_eq (λ k. h.places k i) key (Some (length es)) q) ∙ place-more key q m es none;
-  distinct = distinct-more es (key, m) h.distinct none;
-}
+index-more before after es key m h none u q =
+    btree_map_updates_text key before after (Some (length es)) u q ∙ (λ i. update bytes_eq (λ k. h k i) key (Some (length es)) q) ∙ place-more key q m es none

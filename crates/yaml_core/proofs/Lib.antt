@@ -7,6 +7,7 @@ pub mod WalkLemmas
 pub mod MeasureLemmas
 pub mod KeptLemmas
 pub mod EntriesLemmas
+pub mod MappingLemmas
 pub mod LineLemmas
 pub mod StartLemmas
 pub mod ContextLemmas

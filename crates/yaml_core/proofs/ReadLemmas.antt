@@ -12,7 +12,7 @@ use Rattle.yaml_tokens.specs.Tokens.{Line, text_tokens}
 use Rattle.yaml_core.specs.Tree.{tree, text_tree, text_measured, max_levels}
 use Rattle.yaml_core.proofs.HeightLemmas.{tree-height}
 use Rattle.yaml_core.specs.Stack.{FailsAs}
-use Rattle.yaml_core.specs.Read.{reading, within_limit, AnswersNode}
+use Rattle.yaml_core.specs.Read.{reading, within_limit}
 
 pub reading-utf8 : (text bytes : List ℕ) → (text ≡ bytes) × IsUtf8 bytes → reading bytes ≡ within_limit (text_tree text)
 reading-utf8 text bytes h = rw (is_utf8-from_IsUtf8 bytes h.1) (ap (λ t. within_limit (text_tree t)) (sym h.0))
@@ -32,9 +32,9 @@ fails-reading Many meant h = absurd h
 fails-reading NoMemory meant h = inl refl
 
 -- what a tree within the limit or past it answers
-pub answers : (r read meant : Result Node YamlFault) → AnswersNode r meant → read ≡ meant → MatchResult r (λ tree. read ≡ Ok tree) (λ fault. (fault ≡ NoMemory) ⊎ (read ≡ Err fault))
-answers (Ok n) read meant h e = e ∙ h
-answers (Err f) read meant h e = elim h [ inl none ↦ inl none | inr same ↦ inr (e ∙ same) ]
+pub answers : (r read : Result Node YamlFault) → read ≡ r → MatchResult r (λ tree. read ≡ Ok tree) (λ fault. (fault ≡ NoMemory) ⊎ (read ≡ Err fault))
+answers (Ok n) read e = e
+answers (Err f) read e = inr e
 
 -- the tree of a text has no more levels than it may
 pub text-levels : (text : List ℕ) (m : Measured) → text_measured text ≡ Some m → m.height ≤ max_levels

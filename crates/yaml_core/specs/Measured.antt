@@ -14,7 +14,8 @@ pub record Measured : Type 0 where
   pub height : ℕ
 
 abbrev pub measured_code : Coded Measured
-measured_code = code_by (Node × ℕ) (coded× the_node.the_row.coded coded_ℕ) (λ m. (m.node, m.height)) (λ p. record { node = p.0; height = p.1 }) (λ _. refl)
+measured_code = code_by (Node × ℕ) (coded× the_node.the_row.coded coded_ℕ) (λ m. (m.node, m.height))
+    (λ p. record { node = p.0; height = p.1 }) (λ _. refl)
 
 -- a node with nothing in it
 abbrev pub leaf : Node → Measured

@@ -1,5 +1,5 @@
 -- What the bytes of a file are read as.
-use Rattle.std.specs.Prelude.{◌≡◌, ◌⊎◌, ℕ, nat_le, if◌then◌else◌, List, Option, Some, None, Result, Ok, Err}
+use Rattle.std.specs.Prelude.{ℕ, nat_le, if◌then◌else◌, List, Option, Some, None, Result, Ok, Err}
 use Rattle.std.specs.Str.{is_utf8}
 use Rattle.yaml_core.specs.declared.fault.YamlFault.{YamlFault}
 use Rattle.yaml_core.specs.declared.fault.YamlFault.TheVariants as fault
@@ -15,8 +15,3 @@ within_limit (Some n) = if nat_le (node_count n) most_nodes then Ok n else Err f
 -- the tree of the bytes, or the first fault that they have
 abbrev pub reading : List ℕ → Result Node YamlFault
 reading bytes = if is_utf8 bytes then within_limit (text_tree bytes) else Err fault.NotUtf8
-
--- the node that is meant or its fault, unless memory runs out
-abbrev pub AnswersNode : Result Node YamlFault → Result Node YamlFault → Type 0
-AnswersNode (Ok n) meant = meant ≡ Ok n
-AnswersNode (Err e) meant = (e ≡ fault.NoMemory) ⊎ (meant ≡ Err e)

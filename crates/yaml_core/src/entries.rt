@@ -1,8 +1,7 @@
-//! Values under keys, found by key: the entries of a mapping, and the nodes that have names.
-ghost use Rattle.std.specs.Prelude.{◌≡◌, [], map, true};
+//! Values under keys, found by key: the nodes that have names.
+ghost use Rattle.std.specs.Prelude.{◌≡◌, []};
 ghost use Rattle.std.specs.Option.{option_copied};
-ghost use Rattle.yaml_core.specs.Keys.{are_distinct};
-ghost use Rattle.yaml_core.specs.Measured.{Entry, add_entry, find_entry};
+ghost use Rattle.yaml_core.specs.Measured.{add_entry, find_entry};
 ghost use Rattle.yaml_core.specs.Stack.{Gives};
 
 use crate::fault::YamlFault;
@@ -70,13 +69,5 @@ impl Entries {
             Some(place) => Some(&self.held[*place].1),
             None => None,
         }
-    }
-
-    /// The entries, in the order of the text.
-    pub(crate) fn into_entries(self) -> Vec<(Text, Value)>
-        ensures entries { result.items ≡ self }
-        ensures distinct { are_distinct (map (λ (e : Entry). e.0) self) ≡ true }
-    {
-        self.held
     }
 }

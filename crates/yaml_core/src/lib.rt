@@ -3,13 +3,13 @@
 
 mod anchors;
 mod blocks;
-mod copy;
 mod entries;
 mod fault;
 mod growing;
 mod inline;
 mod node;
 mod read;
+mod shared;
 mod size;
 mod stack;
 mod start;
@@ -17,8 +17,6 @@ mod start;
 mod tests;
 mod value;
 mod value_note;
-#[cfg(test)]
-mod value_tests;
 mod written_tree;
 
 pub use fault::YamlFault;

@@ -1,16 +1,18 @@
 //! The tree of a YAML text, and what callers look up in it.
-ghost use Rattle.std.specs.Prelude.{◌≡◌};
+ghost use Rattle.std.specs.Prelude.{◌≡◌, IfOk};
 ghost use Rattle.std.specs.Option.{option_copied};
 ghost use Rattle.yaml_core.specs.Lookup.{value_at, value_among, unless_null, list_of, text_at};
 
+use crate::shared::Shared;
 use sqlite_items::Items;
+use std::alloc::{AllocError, Global};
 use yaml_tokens::Text;
 
-/// Nodes in order, which contracts see as their list.
-pub type Nodes = Items<Node>;
+/// Nodes in order, which contracts see as their list. Several nodes may share them.
+pub type Nodes = Shared<Items<Node>>;
 
-/// Pairs in order, which contracts see as their list.
-pub type Pairs = Items<Pair>;
+/// Pairs in order, which contracts see as their list. Several nodes may share them.
+pub type Pairs = Shared<Items<Pair>>;
 
 /// A node of the tree, with aliases written out.
 #[cycle(node)]
@@ -36,6 +38,20 @@ pub struct Pair {
     pub key: Text,
     /// The node under the key.
     pub value: Node,
+}
+
+/// The same node again, which shares its items, entries or text with the node that it is made from. Takes
+/// constant time and no memory, except that a text which isn't shared yet is copied once.
+pub(crate) fn node_again(alloc: Global, node: &Node) -> Result<Node, AllocError>
+    ensures { IfOk result (λ again. again ≡ node.now) }
+{
+    match node {
+        Node::Scalar(text) => Ok(Node::Scalar(text.again(alloc)?)),
+        Node::Quoted(text) => Ok(Node::Quoted(text.again(alloc)?)),
+        Node::List(items) => Ok(Node::List(items.share()?)),
+        Node::Map(pairs) => Ok(Node::Map(pairs.share()?)),
+        Node::Null => Ok(Node::Null),
+    }
 }
 
 /// The text of a scalar, quoted or not; `None` at any other node.

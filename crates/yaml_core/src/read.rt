@@ -6,7 +6,6 @@ ghost use Rattle.yaml_core.specs.Size.{node_height};
 ghost use Rattle.yaml_core.specs.Tree.{text_measured, max_levels};
 ghost use Rattle.yaml_core.specs.Stack.{Gives};
 
-use crate::anchors::uses_of_names;
 use crate::blocks::tree_of;
 use crate::fault::YamlFault;
 use crate::node::Node;
@@ -20,9 +19,7 @@ use yaml_tokens::without_mark;
 fn tree_of_text(alloc: Global, text: &str) -> Result<Value, YamlFault>
     ensures { Gives result (text_measured text.now) }
 {
-    let text = without_mark(text);
-    let uses = uses_of_names(alloc, text)?;
-    tree_of(alloc, uses, text)
+    tree_of(alloc, without_mark(text))
 }
 
 /// The tree of a text, or the first of the faults that it has. The tree has at most 64 levels, and the
@@ -32,7 +29,8 @@ pub fn read_yaml(alloc: Global, bytes: &[u8]) -> Result<Node, YamlFault>
     requires { length bytes.now ≤ MOST_BYTES }
     ensures levels { IfOk result (λ tree. node_height tree ≤ max_levels) }
     ensures keys { IfOk result (λ tree. HasDistinctKeys tree) }
-    ensures answer { MatchResult result (λ tree. reading bytes.now ≡ Ok tree) (λ fault. (fault ≡ YamlFault.NoMemory) ⊎ (reading bytes.now ≡ Err fault)) }
+    ensures answer { MatchResult result (λ tree. reading bytes.now ≡ Ok tree)
+        (λ fault. (fault ≡ YamlFault.NoMemory) ⊎ (reading bytes.now ≡ Err fault)) }
 {
     let Ok(text) = str::from_utf8(bytes) else {
         return Err(YamlFault::NotUtf8);

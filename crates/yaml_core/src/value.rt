@@ -1,25 +1,26 @@
 //! Nodes while they are built, with their numbers of levels and of nodes.
-ghost use Rattle.std.specs.Prelude.{◌≡◌, ◌≤◌, ◌++◌, ◌∷◌, [], map, option_map, IfOk, OnOk, nat_le, Some, None};
-ghost use Rattle.yaml_core.specs.Measured.{leaf, list_node, map_node, pair, pair_of, Entry};
+ghost use Rattle.std.specs.Prelude.{◌≡◌, ◌≤◌, ◌++◌, ◌∷◌, [], map, option_map, IfOk, nat_le, Some, None};
+ghost use Rattle.yaml_core.specs.Measured.{leaf, list_node, map_node, pair, add_entry};
 ghost use Rattle.yaml_core.specs.Keys.{HasDistinctKeys};
-ghost use Rattle.yaml_core.specs.Kept.{IsLeftOut, KeepsMore, KeepsNodes, nodes_up_to};
-ghost use Rattle.yaml_core.specs.Read.{AnswersNode, within_limit};
-ghost use Rattle.yaml_core.specs.Size.{node_count, node_height};
+ghost use Rattle.yaml_core.specs.Kept.{IsLeftOut, KeepsMore};
+ghost use Rattle.yaml_core.specs.Read.{within_limit};
+ghost use Rattle.yaml_core.specs.Size.{node_height};
+ghost use Rattle.yaml_core.specs.Stack.{Gives};
 ghost use Rattle.yaml_core.specs.Tree.{max_levels};
 
-use crate::copy::copy_of;
-use crate::entries::Entries;
 use crate::fault::YamlFault;
 use crate::growing::Growing;
-use crate::node::{Node, Pair};
+use crate::node::{Node, Pair, node_again};
+use crate::shared::Shared;
 use crate::size::MOST_NODES;
-use crate::value_note::{Gathered, Origin, ValueNote, ValuesNote};
+use crate::value_note::{Entered, EntriesNote, Gathered, Origin, ValueNote, ValuesNote};
 use std::alloc::{AllocError, Global};
+use std::collections::BTreeSet;
 use std::marker::Model;
 use yaml_tokens::Text;
 
 /// A node with its numbers of levels and of nodes, which stop at their last values. Contracts see
-/// it as the node with its levels, also if the node itself isn't kept because there are too many.
+/// it as the node with its levels. The node itself is left out exactly when it has more than [`MOST_NODES`] nodes.
 #[derive(Drop)]
 pub struct Value {
     node: Option<Node>,
@@ -65,12 +66,30 @@ impl Model for Values {
     ghost invariant = { λ v. KeepsNodes v.all v.levels v.nodes (map (λ m. m.node) v.note.measured) v.note.measured };
 }
 
-/// The pairs of a mapping as far as they are kept, with the levels and the nodes of their values.
+/// Entries in order, while a mapping is read. Contracts see their list. Each key is held twice: in the pair that
+/// the mapping gets, and in the set of keys that finds an equal one.
 #[derive(Drop)]
-struct Paired {
+pub struct Mapping {
     all: Option<Growing<Pair>>,
+    keys: BTreeSet<String>,
     levels: u8,
     nodes: u32,
+    note: EntriesNote,
+}
+
+impl Model for Mapping {
+    ghost use Rattle.std.specs.Prelude.{List};
+    ghost use Rattle.std.specs.Coded.{coded_list};
+    ghost use Rattle.yaml_core.specs.Measured.{Entry, entry_code};
+    ghost use Rattle.yaml_core.specs.Kept.{KeepsEntries};
+
+    ghost Value = { List Entry };
+
+    ghost coded = { coded_list entry_code };
+
+    ghost view = { λ v. v.note.entries };
+
+    ghost invariant = { λ v. KeepsEntries v.all v.keys v.levels v.nodes v.note.entries };
 }
 
 /// What was kept with one more, if that is kept too and there are at most [`MOST_NODES`] nodes.
@@ -96,22 +115,22 @@ fn kept_with<T: Drop>(
 }
 
 /// The list of these nodes, if they are kept.
-fn list_of(nodes: Option<Growing<Node>>) -> Option<Node>
-    ensures { result ≡ option_map (λ ns. Node.List ns) nodes }
+fn list_of(alloc: Global, nodes: Option<Growing<Node>>) -> Result<Option<Node>, AllocError>
+    ensures { IfOk result (λ list. list ≡ option_map (λ ns. Node.List ns) nodes) }
 {
     match nodes {
-        Some(nodes) => Some(Node::List(nodes.into_items())),
-        None => None,
+        Some(nodes) => Ok(Some(Node::List(Shared::new(alloc, nodes.into_items())?))),
+        None => Ok(None),
     }
 }
 
 /// The mapping of these pairs, if they are kept.
-fn map_of(pairs: Option<Growing<Pair>>) -> Option<Node>
-    ensures { result ≡ option_map (λ ps. Node.Map ps) pairs }
+fn map_of(alloc: Global, pairs: Option<Growing<Pair>>) -> Result<Option<Node>, AllocError>
+    ensures { IfOk result (λ mapping. mapping ≡ option_map (λ ps. Node.Map ps) pairs) }
 {
     match pairs {
-        Some(pairs) => Some(Node::Map(pairs.into_items())),
-        None => None,
+        Some(pairs) => Ok(Some(Node::Map(Shared::new(alloc, pairs.into_items())?))),
+        None => Ok(None),
     }
 }
 
@@ -123,22 +142,6 @@ fn pair_of(key: Text, node: Option<Node>) -> Option<Pair>
         Some(value) => Some(Pair { key, value }),
         None => None,
     }
-}
-
-/// The pairs of the entries.
-fn pairs_of(alloc: Global, entries: Vec<(Text, Value)>) -> Result<Paired, AllocError>
-    ensures { IfOk result (λ paired. KeepsNodes paired.all paired.levels paired.nodes (map pair_of entries.items) (map (λ (e : Entry). e.1) entries.items)) }
-{
-    let none = Growing::with_room(alloc, entries.len())?;
-    let mut all = Some(none);
-    let mut levels: u8 = 0;
-    let mut nodes: u32 = 0;
-    for (key, value) in entries {
-        levels = levels.max(value.levels);
-        nodes = value.nodes.saturating_add(nodes);
-        all = kept_with(all, pair_of(key, value.node), nodes)?;
-    }
-    Ok(Paired { all, levels, nodes })
 }
 
 impl Value {
@@ -180,38 +183,30 @@ impl Value {
         }
     }
 
-    /// A list.
-    pub fn list(values: Values) -> Self
-        ensures { result ≡ list_node values }
+    /// A list. Takes constant time and memory.
+    pub fn list(alloc: Global, values: Values) -> Result<Self, AllocError>
+        ensures { IfOk result (λ value. value ≡ list_node values) }
     {
         let note = ValueNote::of(&Origin::List(&values));
-        Value {
-            node: list_of(values.all),
+        Ok(Value {
+            node: list_of(alloc, values.all)?,
             levels: values.levels.saturating_add(1),
             nodes: values.nodes.saturating_add(1),
-            note,
-        }
-    }
-
-    /// A mapping.
-    pub fn map(alloc: Global, entries: Entries) -> Result<Self, AllocError>
-        ensures { IfOk result (λ value. value ≡ map_node entries) }
-    {
-        let note = ValueNote::of(&Origin::Map(&entries));
-        let paired = pairs_of(alloc, entries.into_entries())?;
-        Ok(Value {
-            node: map_of(paired.all),
-            levels: paired.levels.saturating_add(1),
-            nodes: paired.nodes.saturating_add(1),
             note,
         })
     }
 
-    /// How many nodes the node has, up to the last 32-bit number.
-    pub fn nodes(&self) -> u32
-        ensures { result ≡ nodes_up_to (node_count self.now.node) }
+    /// A mapping. Takes constant time and memory, besides the time to drop the set of keys.
+    pub fn map(alloc: Global, mapping: Mapping) -> Result<Self, AllocError>
+        ensures { IfOk result (λ value. value ≡ map_node mapping) }
     {
-        self.nodes
+        let note = ValueNote::of(&Origin::Map(&mapping));
+        Ok(Value {
+            node: map_of(alloc, mapping.all)?,
+            levels: mapping.levels.saturating_add(1),
+            nodes: mapping.nodes.saturating_add(1),
+            note,
+        })
     }
 
     /// Whether the node has at most so many levels.
@@ -222,10 +217,9 @@ impl Value {
         self.levels as usize <= levels
     }
 
-    /// The node, unless it has more than [`MOST_NODES`] nodes. `NoMemory` if the node isn't there
-    /// although it has no more: a node is left out only if the text has too many nodes or no tree.
+    /// The node, unless it has more than [`MOST_NODES`] nodes.
     pub fn into_node(self) -> Result<Node, YamlFault>
-        ensures answer { AnswersNode result (within_limit (Some self.node)) }
+        ensures answer { result ≡ within_limit (Some self.node) }
         ensures levels { IfOk result (λ node. node_height node ≡ self.height) }
         ensures keys { IfOk result (λ node. HasDistinctKeys node) }
     {
@@ -234,28 +228,17 @@ impl Value {
         }
         match self.node {
             Some(node) => Ok(node),
-            None => Err(YamlFault::NoMemory),
+            None => unreachable!(),
         }
     }
 
-    /// The same value without its node.
-    pub fn without_node(&self) -> Self
-        ensures { result ≡ self.now }
-    {
-        Value {
-            node: None,
-            levels: self.levels,
-            nodes: self.nodes,
-            note: ValueNote::of(&Origin::Same(self)),
-        }
-    }
-
-    /// The same value again, with a copy of its node if that is kept.
-    pub fn copy(&self, alloc: Global) -> Result<Self, AllocError>
+    /// The same value again, whose node shares what is in it. Takes constant time and no memory, except that a
+    /// text which isn't shared yet is copied once.
+    pub fn again(&self, alloc: Global) -> Result<Self, AllocError>
         ensures { IfOk result (λ value. value ≡ self.now) }
     {
         let node = match &self.node {
-            Some(node) => Some(copy_of(alloc, node)?),
+            Some(node) => Some(node_again(alloc, node)?),
             None => None,
         };
         Ok(Value {
@@ -280,16 +263,63 @@ impl Values {
         }
     }
 
-    /// Puts one more at the end. The nodes are kept while there are at most [`MOST_NODES`].
-    pub fn push(&mut self, value: Value) -> Result<(), AllocError>
-        ensures { OnOk result (self.new ≡ self.old ++ value ∷ []) }
+    /// The values with one more at the end, in constant time on average. The nodes are kept while there are at
+    /// most [`MOST_NODES`].
+    pub fn push(self, value: Value) -> Result<Self, AllocError>
+        ensures { IfOk result (λ values. values ≡ self ++ value ∷ []) }
     {
-        let note = ValuesNote::of(&Gathered::More(self, &value));
+        let note = ValuesNote::of(&Gathered::More(&self, &value));
+        let levels = self.levels.max(value.levels);
         let nodes = value.nodes.saturating_add(self.nodes);
-        self.all = kept_with(self.all.take(), value.node, nodes)?;
-        self.levels = self.levels.max(value.levels);
-        self.nodes = nodes;
-        self.note = note;
-        Ok(())
+        let all = kept_with(self.all, value.node, nodes)?;
+        Ok(Values {
+            all,
+            levels,
+            nodes,
+            note,
+        })
+    }
+}
+
+impl Mapping {
+    /// No entry. Takes no memory.
+    pub fn new(alloc: Global) -> Self
+        ensures { result ≡ [] }
+    {
+        Mapping {
+            all: Some(Growing::new(alloc)),
+            keys: BTreeSet::new(alloc),
+            levels: 0,
+            nodes: 0,
+            note: EntriesNote::of(&Entered::Nothing),
+        }
+    }
+
+    /// The entries with one more; `Form` if the key is there already, which takes logarithmic time to find out.
+    /// The pairs are kept while their values have at most [`MOST_NODES`] nodes.
+    pub fn add(self, alloc: Global, key: Text, value: Value) -> Result<Self, YamlFault>
+        ensures { Gives result (add_entry self key value) }
+    {
+        let note = EntriesNote::of(&Entered::More(&self, &key, &value));
+        let Mapping {
+            all,
+            mut keys,
+            levels,
+            nodes,
+            note: _,
+        } = self;
+        if !keys.insert(String::from_str(alloc, key.as_str())?)? {
+            return Err(YamlFault::Form);
+        }
+        let levels = levels.max(value.levels);
+        let nodes = value.nodes.saturating_add(nodes);
+        let all = kept_with(all, pair_of(key, value.node), nodes)?;
+        Ok(Mapping {
+            all,
+            keys,
+            levels,
+            nodes,
+            note,
+        })
     }
 }

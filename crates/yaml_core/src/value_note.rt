@@ -1,11 +1,10 @@
 //! What values mean. Only clauses read it; it takes no memory and does nothing at run time.
 ghost use Rattle.std.specs.Prelude.{◌≡◌, List};
 ghost use Rattle.std.specs.Borrow.{ftrue};
-ghost use Rattle.yaml_core.specs.Measured.{Measured, measured_code};
+ghost use Rattle.yaml_core.specs.Measured.{Measured, measured_code, Entry, entry_code};
 ghost use Rattle.std.specs.Coded.{coded_list};
 
-use crate::entries::Entries;
-use crate::value::{Value, Values};
+use crate::value::{Mapping, Value, Values};
 use std::marker::Model;
 use yaml_tokens::Text;
 
@@ -21,7 +20,7 @@ pub(crate) enum Origin<'a> {
     /// A list of these.
     List(&'a Values),
     /// A mapping of these.
-    Map(&'a Entries),
+    Map(&'a Mapping),
     /// The same value.
     Same(&'a Value),
 }
@@ -33,6 +32,15 @@ pub(crate) enum Gathered<'a> {
     Nothing,
     /// Values, and one more after them.
     More(&'a Values, &'a Value),
+}
+
+/// What entries come from.
+#[derive(Clone, Copy, Drop)]
+pub(crate) enum Entered<'a> {
+    /// No entry.
+    Nothing,
+    /// Entries, and one more after them.
+    More(&'a Mapping, &'a Text, &'a Value),
 }
 
 /// The node that a value means.
@@ -52,6 +60,16 @@ pub(crate) struct ValuesNote {
 }
 
 impl Model for ValuesNote {
+    ghost also_owns = { λ _. ftrue };
+}
+
+/// The entries that a mapping means.
+#[derive(Drop)]
+pub(crate) struct EntriesNote {
+    ghost entries: { List Entry } by { coded_list entry_code },
+}
+
+impl Model for EntriesNote {
     ghost also_owns = { λ _. ftrue };
 }
 
@@ -78,5 +96,18 @@ impl ValuesNote {
         ensures { result.measured ≡ nodes_from _gathered.now }
     {
         ValuesNote {}
+    }
+}
+
+impl EntriesNote {
+    ghost use Rattle.std.specs.Prelude.{◌≡◌};
+    ghost use Rattle.yaml_core.specs.Origins.{entries_from};
+
+    /// The note of the entries that come from there.
+    #[inline(always)]
+    pub(crate) fn of(_entered: &Entered<'_>) -> EntriesNote
+        ensures { result.entries ≡ entries_from _entered.now }
+    {
+        EntriesNote {}
     }
 }

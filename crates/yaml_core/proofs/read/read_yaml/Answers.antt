@@ -1,4 +1,4 @@
-use Rattle.std.proofs.Common.{inr, ◌∙◌, ap}
+use Rattle.std.proofs.Common.{inr, sym, ◌∙◌, ap}
 use Rattle.std.specs.Prelude.{option_map}
 use Rattle.std.proofs.lemmas.Result.{err_from_is_err_and}
 use Rattle.yaml_core.specs.Tree.{text_measured}
@@ -25,5 +25,5 @@ returns c =
     record {
       levels = levels-of c.into_node.result c.in_ok-tree.tree c.into_node.ensures.levels (text-levels c.in-Ok.text.now c.in_ok-tree.tree c.in_ok-tree.ensures);
       keys = c.into_node.ensures.keys;
-      answer = answers _ _ _ c.into_node.ensures.answer (read ∙ ap (λ o. within_limit (option_map (λ m. m.node) o)) c.in_ok-tree.ensures);
+      answer = answers _ _ (read ∙ ap (λ o. within_limit (option_map (λ m. m.node) o)) c.in_ok-tree.ensures ∙ sym c.into_node.ensures.answer);
     }
