@@ -12,6 +12,8 @@ mod formulas;
 #[cfg(test)]
 mod learning;
 #[cfg(test)]
+mod long_texts;
+#[cfg(test)]
 mod model_texts;
 #[cfg(test)]
 mod models;
@@ -31,3 +33,5 @@ mod ranks;
 mod rehearsals;
 #[cfg(test)]
 mod tables;
+#[cfg(test)]
+mod trees;

@@ -13,8 +13,6 @@ mod shared;
 mod size;
 mod stack;
 mod start;
-#[cfg(test)]
-mod tests;
 mod value;
 mod value_note;
 mod written_tree;

@@ -9,8 +9,6 @@ mod lines;
 mod name;
 mod plain;
 mod quoted;
-#[cfg(test)]
-mod tests;
 mod text;
 mod token;
 mod written;

@@ -1,6 +1,6 @@
 //! What no clause says: what a text costs that is held many times.
-use crate::text::Text;
 use std::test::Fail;
+use yaml_tokens::Text;
 
 /// How many bytes the text has.
 const BYTES: usize = 4_194_304;
