@@ -1,5 +1,5 @@
 -- What the parts of a rebuilt model are.
-use Rattle.std.proofs.Common.{◌≡◌, ℕ, ◌+◌, ◌-◌, ◌*◌, ◌<◌, ◌≤◌, ℤ, Bool, Option, List, [], length, get_or, map, refl, sym, ap, ◌∙◌, subst, arith}
+use Rattle.std.proofs.Common.{◌≡◌, ℕ, ◌+◌, ◌-◌, ◌*◌, ◌<◌, ◌≤◌, ℤ, Bool, Option, List, [], length, get_or, map, sym, ap, ◌∙◌, subst, arith}
 use Rattle.std.specs.Prelude.{nat_le, replicate}
 use Rattle.std.specs.List.{All, filter}
 use Rattle.std.proofs.lemmas.Bool.{leb-true}
@@ -9,9 +9,7 @@ use Rattle.sorting_rule.specs.Coalition.{mask_of, roots}
 use Rattle.sorting_rule.specs.Model.{Profile, Model, accepted_set}
 use Rattle.sorting_rule.specs.Examples.{Example}
 use Rattle.sorting_rule.specs.Rebuilt.{own_sets, AreMinimal, Learns}
-use Rattle.problem_core.specs.Grade.{direction_of}
 use Rattle.problem_core.specs.Problem.{ProblemValue, IsProblem}
-use Rattle.problem_core.specs.declared.criterion.Criterion.{Criterion}
 use Rattle.table_core.specs.Examples.{example_at, no_example}
 use Rattle.encoding_rules.specs.Each.{each, listed}
 use Rattle.encoding_rules.specs.Task.{Task, IsTask, criteria, boundaries, direction_at}

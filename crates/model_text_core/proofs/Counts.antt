@@ -1,20 +1,18 @@
 -- How many nodes the tree of a model's text has.
-use Rattle.std.proofs.Common.{◌≡◌, ℕ, zero, suc, ◌+◌, ◌*◌, ◌/◌, ◌%◌, ◌≤◌, Bool, true, false, ℤ, List, [], ◌∷◌, length, map, codes, refl, sym, ap, ◌∙◌, subst, arith, Option, Some}
+use Rattle.std.proofs.Common.{◌≡◌, ℕ, zero, suc, ◌+◌, ◌*◌, ◌/◌, ◌%◌, ◌≤◌, Bool, true, false, ℤ, List, [], ◌∷◌, length, map, codes, sym, ap, ◌∙◌, subst, arith, Option, Some}
 use Rattle.std.specs.Prelude.{◌==◌, All, option_map, if◌then◌else◌}
 use Rattle.std.proofs.lemmas.List.{length-map}
-use Rattle.std.proofs.lemmas.List.Sums.{sum-map, sum_by-cons}
 use Rattle.std.proofs.lemmas.List.Elements.{All-head, All-tail, All-weaker}
 use Rattle.yaml_core.specs.declared.node.Node.{Node}
-use Rattle.yaml_core.specs.declared.node.Node.TheVariants as node
 use Rattle.yaml_core.specs.Measured.{Measured, list_node}
 use Rattle.yaml_core.specs.Kept.{count_of}
 use Rattle.yaml_core.specs.Size.{node_count}
-use Rattle.yaml_core.specs.Tree.{plain_node, is_null_word, text_tree}
-use Rattle.yaml_core.proofs.MeasureLemmas.{count-Null, count-Scalar, count-Quoted, count-list, count-map}
+use Rattle.yaml_core.specs.Tree.{text_tree}
+use Rattle.yaml_core.proofs.MeasureLemmas.{count-list, count-map}
 use Rattle.problem_core.specs.Problem.{ProblemValue, IsProblem}
 use Rattle.problem_core.specs.declared.criterion.Criterion.{Criterion}
 use Rattle.problem_core.specs.declared.criterion.Scale.{Scale}
-use Rattle.written_core.specs.Document.{Scalar, Word, Text}
+use Rattle.written_core.specs.Document.{Word}
 use Rattle.written_core.specs.Outline.{scalar_leaf}
 use Rattle.written_core.proofs.Outlines.{outline-read}
 use Rattle.model_core.specs.Model.{ModelValue, AreCoalitions, Belongs, boundaries_of}

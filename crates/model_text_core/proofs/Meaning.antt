@@ -1,13 +1,13 @@
 -- What reading makes of a model's outline: a tree whose nodes are named here.
-use Rattle.std.proofs.Common.{◌≡◌, ℕ, suc, ◌≤◌, Bool, true, false, ℤ, pos, negsuc, true≢false, List, [], ◌∷◌, ◌++◌, length, map, codes, refl, sym, ap, ◌∙◌, arith, append_assoc, append-nil, Option, Some}
+use Rattle.std.proofs.Common.{◌≡◌, ℕ, suc, ◌≤◌, Bool, true, false, ℤ, pos, negsuc, true≢false, List, [], ◌∷◌, ◌++◌, length, map, codes, refl, sym, ap, ◌∙◌, arith, append-nil, Option, Some}
 use Rattle.std.specs.Prelude.{nat_le, option_map, if◌then◌else◌}
 use Rattle.std.specs.List.{list_all}
 use Rattle.std.proofs.lemmas.Bool.Decides.{nat_tests}
 use Rattle.std.proofs.lemmas.Bool.{and_parts, eqb-true}
 use Rattle.std.proofs.lemmas.Slice.Eq.{bytes_eq-Decides}
-use Rattle.yaml_core.specs.Measured.{Measured, Entry, leaf, list_node, map_node, highest}
-use Rattle.yaml_core.specs.Reading.{Names, Reading, gives, and_then, naming, unless_higher}
-use Rattle.yaml_core.specs.Tree.{plain_node, adding}
+use Rattle.yaml_core.specs.Measured.{Measured, Entry, list_node, map_node, highest}
+use Rattle.yaml_core.specs.Reading.{Names, gives, and_then, naming, unless_higher}
+use Rattle.yaml_core.specs.Tree.{adding}
 use Rattle.problem_core.specs.Problem.{ProblemValue}
 use Rattle.problem_core.specs.declared.criterion.Criterion.{Criterion}
 use Rattle.problem_core.specs.declared.criterion.Scale.{Scale}

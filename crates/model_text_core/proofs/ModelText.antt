@@ -1,23 +1,18 @@
 -- A model's outline may be written, and its text reads back.
-use Rattle.std.proofs.Common.{◌≡◌, ℕ, zero, suc, ◌+◌, ◌/◌, ◌%◌, ◌≤◌, Bool, true, false, ℤ, List, [], ◌∷◌, length, map, codes, refl, ap, ◌∙◌, arith, Option, None, Some, Ok}
-use Rattle.std.specs.Prelude.{◌==◌, nat_le, unsigned_abs, option_map, All, if◌then◌else◌}
+use Rattle.std.proofs.Common.{◌≡◌, ℕ, zero, suc, ◌+◌, ◌/◌, ◌%◌, ◌≤◌, Bool, true, false, ℤ, List, [], ◌∷◌, length, map, codes, refl, ap, ◌∙◌, arith, Option, None, Some}
+use Rattle.std.specs.Prelude.{◌==◌, unsigned_abs, option_map, All, if◌then◌else◌}
 use Rattle.std.specs.List.{AllZip, list_all}
 use Rattle.std.specs.Str.{IsUtf8}
-use Rattle.std.proofs.lemmas.Bool.Decides.{nat_tests}
 use Rattle.std.proofs.lemmas.List.Elements.{All-head, All-tail}
 use Rattle.std.proofs.lemmas.Str.{IsUtf8-nil}
-use Rattle.yaml_core.specs.declared.node.Node.{Node}
-use Rattle.yaml_core.specs.declared.size.TheConstants.{MOST_NODES}
 use Rattle.yaml_core.specs.Measured.{Measured}
-use Rattle.yaml_core.specs.Read.{within_limit}
-use Rattle.yaml_core.specs.Size.{node_count}
 use Rattle.problem_core.specs.Grade.{name_in}
 use Rattle.problem_core.specs.Problem.{ProblemValue, IsProblem}
 use Rattle.problem_core.specs.declared.criterion.Criterion.{Criterion}
 use Rattle.problem_core.specs.declared.criterion.Scale.{Scale}
 use Rattle.problem_core.specs.declared.criterion.Scale.TheVariants.{Rising, Falling, Named}
 use Rattle.written_core.specs.Document.{IsGoodScalar, AreGoodScalars, AreUtf8Scalars}
-use Rattle.written_core.specs.Outline.{Outline, Leaf, End, Under, Dashed, Anchored, are_items, IsOutline, IsUtf8Outline, listed}
+use Rattle.written_core.specs.Outline.{Dashed, Anchored, are_items, IsOutline, IsUtf8Outline}
 use Rattle.written_core.proofs.Outlines.{outline-read}
 use Rattle.written_core.proofs.Utf8.{outline-reads-back}
 use Rattle.model_core.specs.Model.{IsThreshold, IsWeight, AreCoalitions, Belongs}

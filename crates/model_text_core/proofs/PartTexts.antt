@@ -5,7 +5,7 @@ use Rattle.std.specs.List.{list_all}
 use Rattle.problem_core.specs.Problem.{ProblemValue, IsProblem}
 use Rattle.model_core.specs.Model.{Belongs}
 use Rattle.problem_core.specs.declared.criterion.Criterion.{Criterion}
-use Rattle.written_core.specs.Document.{Blank, Key, DocLine, line, flow_text, line_text, document_text}
+use Rattle.written_core.specs.Document.{Blank, Key, DocLine, line, flow_text, document_text}
 use Rattle.written_core.specs.Outline.{Outline, End, Under, Dashed, Anchored, outline_lines, word, listed}
 use Rattle.model_core.specs.declared.model.Coalitions.{Coalitions}
 use Rattle.model_core.specs.declared.model.Coalitions.TheVariants.{Weights, Roots}

@@ -21,7 +21,6 @@ use Rattle.problem_core.specs.Tree.{items_under, is_text}
 use Rattle.model_core.specs.Model.{IsWeight, AreCoalitions}
 use Rattle.model_core.specs.declared.model.Coalitions.{Coalitions}
 use Rattle.model_core.specs.declared.model.Coalitions.TheVariants.{Weights, Roots}
-use Rattle.written_core.specs.Document.{Scalar}
 use Rattle.written_core.specs.Outline.{scalar_leaf, scalar_node}
 use Rattle.lists_core.specs.Answers.{◌>>=◌, require}
 use Rattle.model_core.specs.ReadAccepted.{items_of_kind}

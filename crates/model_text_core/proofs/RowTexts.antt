@@ -1,13 +1,10 @@
 -- Rows of criteria, one by one.
-use Rattle.std.proofs.Common.{◌≡◌, ℕ, zero, suc, ◌+◌, ◌<◌, List, [], ◌∷◌, ◌++◌, length, take, drop, sym, ap, ◌∙◌, append-nil, subst, Some, Ok, Err}
+use Rattle.std.proofs.Common.{◌≡◌, ℕ, zero, suc, ◌+◌, List, [], ◌∷◌, ◌++◌, drop, ap, ◌∙◌, subst, Some, Ok, Err}
 use Rattle.std.specs.Prelude.{All, OnOk, Result, slice_get}
 use Rattle.std.specs.List.{AllZip}
-use Rattle.std.proofs.lemmas.List.{take_more}
-use Rattle.std.proofs.lemmas.List.Elements.{All-push}
 use Rattle.problem_core.specs.declared.criterion.Criterion.{Criterion}
 use Rattle.model_core.specs.Model.{IsThreshold}
 use Rattle.model_core.specs.declared.model.Profile.{Profile}
-use Rattle.model_core.proofs.Indices.{get_or-slice_get}
 use Rattle.written_core.proofs.PutLemmas.{drop_got}
 use Rattle.model_text_core.specs.ModelText.{HasUtf8Names}
 use Rattle.model_text_core.specs.Parts.{thresholds_text, accepted_text}

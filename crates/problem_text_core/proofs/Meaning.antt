@@ -1,17 +1,17 @@
 -- What reading makes of a problem's outline: a tree whose nodes are named here.
-use Rattle.std.proofs.Common.{◌≡◌, ℕ, suc, ◌<◌, true, List, [], ◌∷◌, ◌++◌, length, map, codes, refl, sym, ap, ◌∙◌, append_assoc, append-nil, arith, Option, Some}
+use Rattle.std.proofs.Common.{◌≡◌, ℕ, suc, ◌<◌, true, List, [], ◌∷◌, ◌++◌, length, map, codes, refl, sym, ap, ◌∙◌, append-nil, arith, Option, Some}
 use Rattle.std.specs.Prelude.{option_map}
 use Rattle.fixed_core.specs.Spelling.{spelling}
 use Rattle.yaml_core.specs.Measured.{Measured, Entry, list_node, map_node}
-use Rattle.yaml_core.specs.Reading.{Names, Reading, gives, and_then}
+use Rattle.yaml_core.specs.Reading.{Names, gives, and_then}
 use Rattle.yaml_core.specs.Tree.{adding}
 use Rattle.problem_core.specs.Problem.{ProblemValue, IsProblem}
 use Rattle.problem_core.specs.declared.criterion.Bounds.{Bounds}
 use Rattle.problem_core.specs.declared.criterion.Criterion.{Criterion}
 use Rattle.problem_core.specs.declared.criterion.Scale.{Scale}
 use Rattle.problem_core.specs.declared.criterion.Scale.TheVariants.{Rising, Falling, Named}
-use Rattle.written_core.specs.Document.{Word, Text}
-use Rattle.written_core.specs.Outline.{Outline, Under, Dashed, End, are_items, scalar_leaf, entries_by, items_by, block_of, meaning, outline_measured}
+use Rattle.written_core.specs.Document.{Text}
+use Rattle.written_core.specs.Outline.{Outline, Under, End, are_items, scalar_leaf, entries_by, items_by, block_of, meaning, outline_measured}
 use Rattle.written_core.proofs.Lists.{word_leaf, quoted_leaf, listed-meant, item-then}
 use Rattle.problem_text_core.specs.ProblemText.{type_word, criterion_outline, criteria_outline, category_outline, categories_outline, problem_outline}
 

@@ -2,7 +2,7 @@
 use Rattle.std.proofs.Common.{◌≡◌, ℕ, List, [], ◌∷◌, ◌++◌, codes, refl, sym, ap, ◌∙◌, append_assoc, append-nil}
 use Rattle.fixed_core.specs.Spelling.{spelling}
 use Rattle.yaml_tokens.specs.Written.{quoted_text}
-use Rattle.written_core.specs.Document.{Value, Blank, One, Word, Key, DocLine, line, line_text, document_text}
+use Rattle.written_core.specs.Document.{Value, Blank, One, Word, Key, DocLine, line, document_text}
 use Rattle.written_core.specs.Outline.{behind, outline_lines}
 use Rattle.problem_core.specs.Problem.{ProblemValue}
 use Rattle.problem_core.specs.declared.criterion.Bounds.{Bounds}

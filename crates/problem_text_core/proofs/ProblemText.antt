@@ -1,13 +1,8 @@
 -- A problem's outline may be written, and its text reads back.
-use Rattle.std.proofs.Common.{◌≡◌, ℕ, ◌≤◌, Bool, true, false, List, [], ◌∷◌, map, codes, refl, ap, ◌∙◌, arith, Option, Some, Ok}
-use Rattle.std.specs.Prelude.{All, nat_le, option_map}
+use Rattle.std.proofs.Common.{◌≡◌, ℕ, Bool, true, false, List, [], ◌∷◌, map, codes, refl}
+use Rattle.std.specs.Prelude.{All}
 use Rattle.std.specs.Str.{IsUtf8}
-use Rattle.std.proofs.lemmas.Bool.Decides.{nat_tests}
 use Rattle.std.proofs.lemmas.List.Elements.{All-head, All-tail}
-use Rattle.yaml_core.specs.declared.node.Node.{Node}
-use Rattle.yaml_core.specs.Measured.{Measured}
-use Rattle.yaml_core.specs.Read.{within_limit}
-use Rattle.yaml_core.specs.Size.{node_count, most_nodes}
 use Rattle.written_core.specs.Document.{Text, AreGoodScalars, AreUtf8Scalars, is_word}
 use Rattle.written_core.specs.Outline.{are_entries, IsOutline, IsUtf8Outline}
 use Rattle.written_core.proofs.Utf8.{outline-reads-back}
