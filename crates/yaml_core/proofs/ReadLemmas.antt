@@ -1,5 +1,5 @@
 -- From what the tree of a text is to what its bytes are read as.
-use Rattle.std.proofs.Common.{◌≡◌, ℕ, ◌≤◌, arith, Some, None, true, false, List, Option, Result, Ok, Err, refl, ap, ◌∙◌, ◌⊎◌, inl, inr, Bool, sym}
+use Rattle.std.proofs.Common.{◌≡◌, ℕ, ◌≤◌, arith, Some, None, true, false, List, Option, Result, Ok, Err, refl, ap, ◌⊎◌, inl, inr, Bool, sym}
 use Rattle.std.specs.Prelude.{MatchResult, IfOk, option_map, option_and_then}
 use Rattle.std.specs.Str.{IsUtf8, is_utf8}
 use Rattle.std.proofs.lemmas.Str.{is_utf8-from_IsUtf8, IsUtf8-from_is_utf8}

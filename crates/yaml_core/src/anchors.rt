@@ -41,7 +41,8 @@ impl Names {
         }
     }
 
-    /// Gives the value's node a name; `Form` if another node has it.
+    /// Gives the value's node a name; `Form` if another node has it. Takes logarithmic time; only a scalar's text is
+    /// copied.
     pub fn name(&mut self, alloc: Global, name: Text, value: Value) -> Result<Value, YamlFault>
         ensures { GivesWith result self.new (naming name value self.old) }
     {
@@ -66,8 +67,8 @@ impl Names {
         }
     }
 
-    /// The value that an alias names; `Form` if no node has the name, or if it has more
-    /// levels than are left.
+    /// The value that an alias names; `Form` if no node has the name, or if it has more levels than are left. Takes
+    /// logarithmic time, and no memory for what is in the node.
     pub fn get(&self, alloc: Global, levels: usize, name: &str) -> Result<Value, YamlFault>
         requires { levels ≤ max_levels }
         ensures { GivesWith result self.now (node_named levels name.now self.now) }

@@ -11,8 +11,8 @@ use std::collections::BTreeMap;
 use std::marker::Model;
 use yaml_tokens::Text;
 
-/// The values so far, in the order of the text. Contracts see them as the list of their entries. A key is
-/// found in logarithmic time, whatever the keys are.
+/// The values so far, in the order of the text. Contracts see them as the list of their entries. A key is found
+/// in logarithmic time, whatever the keys are; its text is held twice.
 #[derive(Drop)]
 pub struct Entries {
     held: Vec<(Text, Value)>,
@@ -45,7 +45,7 @@ impl Entries {
         }
     }
 
-    /// The entries with one more; `Form` if the key is there already.
+    /// The entries with one more; `Form` if the key is there already. Takes logarithmic time and copies the key.
     pub fn add(self, alloc: Global, key: Text, value: Value) -> Result<Self, YamlFault>
         ensures { Gives result (add_entry self key value) }
     {
@@ -61,7 +61,7 @@ impl Entries {
         Ok(Entries { held, places })
     }
 
-    /// The value under a key.
+    /// The value under a key, in logarithmic time.
     pub fn get(&self, key: &str) -> Option<&Value>
         ensures { option_copied result ≡ find_entry key.now self.now }
     {

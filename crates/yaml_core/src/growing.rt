@@ -1,5 +1,5 @@
 //! Items while they are gathered.
-ghost use Rattle.std.specs.Prelude.{◌≡◌, [], ◌∷◌, ◌++◌, IfOk, OnOk};
+ghost use Rattle.std.specs.Prelude.{◌≡◌, [], ◌∷◌, ◌++◌, OnOk};
 
 use sqlite_items::Items;
 use std::alloc::{AllocError, Global};
@@ -31,15 +31,6 @@ impl<T> Growing<T> {
         Growing {
             items: Vec::new(alloc),
         }
-    }
-
-    /// No item, and room for so many.
-    pub(crate) fn with_room(alloc: Global, count: usize) -> Result<Growing<T>, AllocError>
-        ensures { IfOk result (λ growing. growing ≡ []) }
-    {
-        Ok(Growing {
-            items: Vec::with_capacity(alloc, count)?,
-        })
     }
 }
 

@@ -41,7 +41,7 @@ pub struct Pair {
 }
 
 /// The same node again, which shares its items, entries or text with the node that it is made from. Takes
-/// constant time and no memory, except that a text which isn't shared yet is copied once.
+/// constant time and memory, except that a text is copied unless it came from a node that was made so.
 pub(crate) fn node_again(alloc: Global, node: &Node) -> Result<Node, AllocError>
     ensures { IfOk result (λ again. again ≡ node.now) }
 {

@@ -196,7 +196,7 @@ impl Value {
         })
     }
 
-    /// A mapping. Takes constant time and memory, besides the time to drop the set of keys.
+    /// A mapping. Takes constant memory, and no time besides that to drop the set of its keys.
     pub fn map(alloc: Global, mapping: Mapping) -> Result<Self, AllocError>
         ensures { IfOk result (λ value. value ≡ map_node mapping) }
     {
@@ -232,8 +232,8 @@ impl Value {
         }
     }
 
-    /// The same value again, whose node shares what is in it. Takes constant time and no memory, except that a
-    /// text which isn't shared yet is copied once.
+    /// The same value again, whose node shares what is in it. Takes constant time and memory, except that the text
+    /// of a scalar is copied unless the value came from `again` itself.
     pub fn again(&self, alloc: Global) -> Result<Self, AllocError>
         ensures { IfOk result (λ value. value ≡ self.now) }
     {
@@ -295,7 +295,7 @@ impl Mapping {
         }
     }
 
-    /// The entries with one more; `Form` if the key is there already, which takes logarithmic time to find out.
+    /// The entries with one more; `Form` if the key is there already. Takes logarithmic time and copies the key.
     /// The pairs are kept while their values have at most [`MOST_NODES`] nodes.
     pub fn add(self, alloc: Global, key: Text, value: Value) -> Result<Self, YamlFault>
         ensures { Gives result (add_entry self key value) }

@@ -13,21 +13,29 @@ pub invariant_of-result : goal.invariant_of-result
 invariant_of-result c =
     let mapping = c.self.inside in
     let value = c.value.inside in
+    let es = mapping.note.entries in
+    let key = c.args.key in
     let bs = string_bytes c.in_ok-from_str.field-0 in
-    let name : bs ≡ c.args.key = c.in_ok-from_str.ensures.ok ∙ c.as_str.ensures in
-    let absent : key_in bs mapping.note.entries ≡ false = sym (c.self.invariant.contains bs) ∙ was-absent c.in_ok-insert.field-0 _ c.if-not-branch.false c.in_ok-insert.ensures.added in
-    let updates = subst (λ (ks : List ℕ). UpdatesBy string_cmp (λ k. slice_cmp nat_cmp ks (string_bytes k)) mapping.keys c.insert.new.self true) name c.in_ok-insert.ensures.updates in
+    let name : bs ≡ key = c.in_ok-from_str.ensures.ok ∙ c.as_str.ensures in
+    let absent = was-absent mapping.keys es bs key c.in_ok-insert.field-0 c.self.invariant.contains name
+    c.if-not-branch.false c.in_ok-insert.ensures.added in
+    let after = c.insert.new.self in
+    let updates = subst
+    (λ (ks : List ℕ). UpdatesBy string_cmp (λ k. slice_cmp nat_cmp ks (string_bytes k)) mapping.keys after true)
+    name c.in_ok-insert.ensures.updates in
     let keeps = rw c.pair_of.ensures at c.in_ok-all.ensures.kept in
     let out = rw (c.pair_of.ensures, c.saturating_add-nodes.ensures) at c.in_ok-all.ensures.left_out in
     rw (c.max-levels.ensures, c.saturating_add-nodes.ensures, c.of-note.ensures, ← c.self.view_is, ← c.value.view_is)
-    (keeps-more mapping.all c.in_ok-all.all value.node mapping.keys c.insert.new.self mapping.note.entries c.args.key value.note.measured c.self.invariant c.value.invariant
-    (subst (λ (ks : List ℕ). key_in ks mapping.note.entries ≡ false) name absent) updates keeps out)
+    (keeps-more mapping.all c.in_ok-all.all value.node mapping.keys after es key value.note.measured
+    c.self.invariant c.value.invariant absent updates keeps out)
 
 pub returns : goal.returns
 returns c =
     let mapping = c.self.inside in
+    let key = c.args.key in
     let bs = string_bytes c.in_ok-from_str.field-0 in
-    let name : bs ≡ c.args.key = c.in_ok-from_str.ensures.ok ∙ c.as_str.ensures in
-    let absent : key_in bs mapping.note.entries ≡ false = sym (c.self.invariant.contains bs) ∙ was-absent c.in_ok-insert.field-0 _ c.if-not-branch.false c.in_ok-insert.ensures.added in
-    add-new c.args.self c.args.key c.args.value (subst (λ (es : List Entry). key_in c.args.key es ≡ false) c.self.view_is (subst (λ (ks : List ℕ). key_in ks mapping.note.entries ≡ false) name absent))
+    let name : bs ≡ key = c.in_ok-from_str.ensures.ok ∙ c.as_str.ensures in
+    let absent = was-absent mapping.keys mapping.note.entries bs key c.in_ok-insert.field-0 c.self.invariant.contains name
+    c.if-not-branch.false c.in_ok-insert.ensures.added in
+    add-new c.args.self key c.args.value (subst (λ (es : List Entry). key_in key es ≡ false) c.self.view_is absent)
     ∙ ap (λ es. Some es) (sym c.of-note.ensures)
