@@ -24,4 +24,3 @@ pub use literals_core::Encoding;
 pub use log::{Hints, Lemma, Literals, Log};
 pub use read::{MOST_BYTES, read_log};
 pub use write::{put_dimacs, write_log};
-

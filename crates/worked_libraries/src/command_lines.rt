@@ -47,55 +47,74 @@ fn words_after_a_command_give_its_job_or_their_first_fault(rt: HostRuntime) -> R
         most,
     };
     for (line, want) in [
-        ("learn classification-model P A", Ok(learn(Encoding::Separation, 100_000))),
-        ("learn classification-model --encoding coalitions P --max-conflicts=007 A",
+        (
+            "learn classification-model P A",
+            Ok(learn(Encoding::Separation, 100_000)),
+        ),
+        (
+            "learn classification-model --encoding coalitions P --max-conflicts=007 A",
             Ok(learn(Encoding::Coalitions, 7)),
         ),
-        ("learn classification-model P A --max-conflicts 0",
+        (
+            "learn classification-model P A --max-conflicts 0",
             Err(LineFault::BadNumber(5)),
         ),
-        ("learn classification-model P A --max-conflicts 1000001",
+        (
+            "learn classification-model P A --max-conflicts 1000001",
             Err(LineFault::BadNumber(5)),
         ),
-        ("learn classification-model P A --random-seed 1",
+        (
+            "learn classification-model P A --random-seed 1",
             Err(LineFault::UnknownOption(5)),
         ),
         ("encode P A", Err(LineFault::Missing(4))),
         ("encode P A --encoding", Err(LineFault::Missing(4))),
         ("encode P --encoding=x A", Err(LineFault::BadWord(3))),
-        ("encode P A --encoding=separation=",
+        (
+            "encode P A --encoding=separation=",
             Err(LineFault::BadWord(4)),
         ),
-        ("encode P --encoding separation --encoding x A",
+        (
+            "encode P --encoding separation --encoding x A",
             Err(LineFault::Twice(5)),
         ),
-        ("encode P A --encoding --encoding",
+        (
+            "encode P A --encoding --encoding",
             Err(LineFault::BadWord(4)),
         ),
-        ("describe alternatives P A",
+        (
+            "describe alternatives P A",
             Ok(Job::DescribeTable {
                 problem: "P",
                 table: "A",
             }),
         ),
-        ("generate classification-problem 16 2 --random-seed 18446744073709551615",
+        (
+            "generate classification-problem 16 2 --random-seed 18446744073709551615",
             Ok(Job::GenerateProblem {
                 criteria: 16,
                 categories: 2,
                 seed: 18_446_744_073_709_551_615,
             }),
         ),
-        ("generate classification-problem 17 2 --random-seed 1",
+        (
+            "generate classification-problem 17 2 --random-seed 1",
             Err(LineFault::BadNumber(3)),
         ),
-        ("generate classification-problem 1 +2 --random-seed 1",
+        (
+            "generate classification-problem 1 +2 --random-seed 1",
             Err(LineFault::BadNumber(4)),
         ),
-        ("generate classification-problem 1 2", Err(LineFault::Missing(5))),
-        ("generate classification-problem 1 2 --random-seed 18446744073709551616",
+        (
+            "generate classification-problem 1 2",
+            Err(LineFault::Missing(5)),
+        ),
+        (
+            "generate classification-problem 1 2 --random-seed 18446744073709551616",
             Err(LineFault::BadNumber(5)),
         ),
-        ("generate classified-alternatives --random-seed=0 P M 100000",
+        (
+            "generate classified-alternatives --random-seed=0 P M 100000",
             Ok(Job::GenerateTable {
                 problem: "P",
                 model: "M",
@@ -103,7 +122,8 @@ fn words_after_a_command_give_its_job_or_their_first_fault(rt: HostRuntime) -> R
                 seed: 0,
             }),
         ),
-        ("rehearse 1 10 10000 0007",
+        (
+            "rehearse 1 10 10000 0007",
             Ok(Job::Rehearse {
                 criteria: 1,
                 categories: 10,

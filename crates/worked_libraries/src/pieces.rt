@@ -1,10 +1,10 @@
 //! Whole texts, in one piece and in several, and sinks whose writes fail.
 
-use stream_core::{send_dimacs, send_log};
 use chain_core::{Encoding, Formula, Literal, Log, MOST_BYTES, put_dimacs, read_log};
 use edge_core::{Failed, MemSink};
 use std::alloc::Global;
 use std::test::Fail;
+use stream_core::{send_dimacs, send_log};
 
 /// How many bytes one write has at least, unless it is the last one.
 const PIECE: usize = 32_768;
