@@ -3,6 +3,7 @@ pub mod PlainLemmas
 pub mod LexerLemmas
 pub mod LinesLemmas
 pub mod PackedLemmas
+pub mod ArraysLemmas
 pub mod QuotesLemmas
 pub mod NameLemmas
 pub mod WrittenLemmas

@@ -44,7 +44,7 @@ name-token-some : (make : List ℕ → Token) (depth : ℕ) (name rest : List �
 name-token-some make depth [] rest some e = absurd (omega arith)
 name-token-some make depth (b ∷ bs) rest some e = rw e refl
 
--- the token of so many bytes that are all of a name, at least one, where it may end
+-- the token of so many bytes that are all of a name, at least one, if it may end there
 pub token-named : (make : List ℕ → Token) (depth : ℕ) (bs : List ℕ) (n : ℕ) → name_at bs ≡ (take n bs, drop n bs) → n ≤ length bs → (nat_lt 0 n && ends_name depth (drop n bs)) ≡ true
     → name_token make depth (name_at bs) ≡ Some (record { token = make (take n bs); rest = drop n bs; depth = depth })
 token-named make depth bs n read within whole =

@@ -1,32 +1,36 @@
 -- Tokens whose texts lie behind one another.
-use Rattle.std.proofs.Common.{◌≡◌, ◌≤◌, ◌<◌, ◌+◌, ℕ, suc, List, [], ◌∷◌, ◌++◌, length, take, drop, length-append, length-drop, refl, ap, sym, ◌∙◌, subst, arith, get_or, Some, None}
+use Rattle.std.proofs.Common.{◌≡◌, ◌≤◌, ℕ, suc, false, List, [], ◌∷◌, ◌++◌, length, map, take, drop, length-append, refl, ap, sym, ◌∙◌, subst, arith, Some}
 use Rattle.std.proofs.Math.Seq.{take-length, drop-length}
-use Rattle.std.proofs.lemmas.List.{take-append-le, drop-append-le, get_or-drop}
+use Rattle.std.proofs.lemmas.List.{take-append-le, drop-append-le}
+use Rattle.std.specs.List.{slice_get}
 use Rattle.std.specs.Str.{IsUtf8}
-use Rattle.yaml_tokens.specs.declared.line.Packed.{Packed}
+use Rattle.yaml_tokens.specs.declared.packed.Packed.{Packed}
 use Rattle.yaml_tokens.specs.declared.token.Token.{Token}
 use Rattle.yaml_tokens.specs.declared.token.Token.TheVariants.{Dash, Colon, Open, Close, Comma, Plain, Quoted, Anchor, Alias}
 use Rattle.yaml_tokens.specs.declared.token.TokenKind.{TokenKind}
 use Rattle.yaml_tokens.specs.declared.token.TokenKind.TheVariants as kind
 use Rattle.yaml_tokens.specs.declared.token.Placed.{Placed}
-use Rattle.yaml_tokens.specs.Packed.{kind_of, text_in, token_of, second_kind, unpacked, ArePacked}
+use Rattle.yaml_tokens.specs.Packed.{has_text, kind_of, text_in, token_of, first_kind, second_kind, unpacked, ArePacked}
 
 pub unpacked-length : (ps : List Packed) (s : List ℕ) → length (unpacked ps s) ≡ length ps
 unpacked-length [] s = refl
 unpacked-length (p ∷ ps) s = ap (λ n. suc n) (unpacked-length ps (drop p.len s))
 
-pub unpacked-append : (ps qs : List Packed) (s t : List ℕ) → ArePacked ps s → unpacked (ps ++ qs) (s ++ t) ≡ unpacked ps s ++ unpacked qs t
+unpacked-append : (ps qs : List Packed) (s t : List ℕ) → ArePacked ps s
+    → unpacked (ps ++ qs) (s ++ t) ≡ unpacked ps s ++ unpacked qs t
 unpacked-append [] qs s t h = ap (λ x. unpacked qs (x ++ t)) h
 unpacked-append (p ∷ ps) qs s t h =
-    (λ i. record { column = p.column; token = token_of p.kind (take-append-le p.len s t h.0 i) } ∷ unpacked (ps ++ qs) (drop-append-le p.len s t h.0 i))
-    ∙ ap (λ ts. record { column = p.column; token = token_of p.kind (take p.len s) } ∷ ts) (unpacked-append ps qs (drop p.len s) t h.2)
+    rw (take-append-le p.len s t h.0, drop-append-le p.len s t h.0)
+    (ap (λ ts. record { column = p.column; token = token_of p.kind (take p.len s) } ∷ ts)
+    (unpacked-append ps qs (drop p.len s) t h.2))
 
-pub packed-append : (ps qs : List Packed) (s t : List ℕ) → ArePacked ps s → ArePacked qs t → ArePacked (ps ++ qs) (s ++ t)
-packed-append [] qs s t h more = subst (λ x. ArePacked qs (x ++ t)) (sym h) more
-packed-append (p ∷ ps) qs s t h more = (
+ArePacked-append : (ps qs : List Packed) (s t : List ℕ) → ArePacked ps s → ArePacked qs t
+    → ArePacked (ps ++ qs) (s ++ t)
+ArePacked-append [] qs s t h more = subst (λ x. ArePacked qs (x ++ t)) (sym h) more
+ArePacked-append (p ∷ ps) qs s t h more = (
   omega (arith, h.0, length-append s t),
   subst IsUtf8 (sym (take-append-le p.len s t h.0)) h.1,
-  subst (ArePacked (ps ++ qs)) (sym (drop-append-le p.len s t h.0)) (packed-append ps qs (drop p.len s) t h.2 more),
+  subst (ArePacked (ps ++ qs)) (sym (drop-append-le p.len s t h.0)) (ArePacked-append ps qs (drop p.len s) t h.2 more),
 )
 
 -- a token is that of its kind and its text
@@ -41,34 +45,45 @@ token-is (Quoted text) = refl
 token-is (Anchor name) = refl
 token-is (Alias name) = refl
 
+-- a token of a kind without a text has none
+pub no-text : (t : Token) → has_text (kind_of t) ≡ false → length (text_in t) ≡ 0
+no-text Dash h = refl
+no-text Colon h = refl
+no-text Open h = refl
+no-text Close h = refl
+no-text Comma h = refl
+no-text (Plain text) h = grind arith
+no-text (Quoted text) h = grind arith
+no-text (Anchor name) h = grind arith
+no-text (Alias name) h = grind arith
+
 -- one token with all of its text
-pub unpacked-one : (p : Packed) (x : Placed) → p.column ≡ x.column → p.kind ≡ kind_of x.token → p.len ≡ length (text_in x.token) → unpacked (p ∷ []) (text_in x.token) ≡ x ∷ []
+pub unpacked-one : (p : Packed) (x : Placed) → p.column ≡ x.column → p.kind ≡ kind_of x.token
+    → p.len ≡ length (text_in x.token) → unpacked (p ∷ []) (text_in x.token) ≡ x ∷ []
 unpacked-one p x column kind len =
     (λ i. record { column = column i; token = token_of (kind i) (take (len i) (text_in x.token)) } ∷ [])
     ∙ (λ i. record { column = x.column; token = token_of (kind_of x.token) (take-length (text_in x.token) i) } ∷ [])
     ∙ (λ i. record { column = x.column; token = token-is x.token i } ∷ [])
 
-pub packed-one : (p : Packed) (t : List ℕ) → p.len ≡ length t → IsUtf8 t → ArePacked (p ∷ []) t
-packed-one p t len utf8 = (
+pub ArePacked-one : (p : Packed) (t : List ℕ) → p.len ≡ length t → IsUtf8 t → ArePacked (p ∷ []) t
+ArePacked-one p t len utf8 = (
   omega (arith, len),
   subst IsUtf8 (sym (ap (λ n. take n t) len ∙ take-length t)) utf8,
   ap (λ n. drop n t) len ∙ drop-length t,
 )
 
 -- what is left, with more behind it
-pub packed-more : (ps qs : List Packed) (s t : List ℕ) (taken read : ℕ) → taken ≤ length ps → read ≤ length s → ArePacked (drop taken ps) (drop read s) → ArePacked qs t
-    → (taken ≤ length (ps ++ qs)) × (read ≤ length (s ++ t)) × ArePacked (drop taken (ps ++ qs)) (drop read (s ++ t))
-packed-more ps qs s t taken read some within left more = (
-  omega (arith, length-append ps qs),
+pub ArePacked-more : (ps qs : List Packed) (s t : List ℕ) (read : ℕ) → read ≤ length s → ArePacked ps (drop read s)
+    → ArePacked qs t → (read ≤ length (s ++ t)) × ArePacked (ps ++ qs) (drop read (s ++ t))
+ArePacked-more ps qs s t read within left more = (
   omega (arith, length-append s t),
-  rw (drop-append-le taken ps qs some, drop-append-le read s t within) (packed-append (drop taken ps) qs (drop read s) t left more),
+  rw (drop-append-le read s t within) (ArePacked-append ps qs (drop read s) t left more),
 )
 
-pub unpacked-more : (ps qs : List Packed) (s t : List ℕ) (taken read : ℕ) → taken ≤ length ps → read ≤ length s → ArePacked (drop taken ps) (drop read s)
-    → unpacked (drop taken (ps ++ qs)) (drop read (s ++ t)) ≡ unpacked (drop taken ps) (drop read s) ++ unpacked qs t
-unpacked-more ps qs s t taken read some within left =
-    (λ i. unpacked (drop-append-le taken ps qs some i) (drop-append-le read s t within i))
-    ∙ unpacked-append (drop taken ps) qs (drop read s) t left
+pub unpacked-more : (ps qs : List Packed) (s t : List ℕ) (read : ℕ) → read ≤ length s → ArePacked ps (drop read s)
+    → unpacked (ps ++ qs) (drop read (s ++ t)) ≡ unpacked ps (drop read s) ++ unpacked qs t
+unpacked-more ps qs s t read within left =
+    rw (drop-append-le read s t within) (unpacked-append ps qs (drop read s) t left)
 
 kind-is : (k : TokenKind) (t : List ℕ) → kind_of (token_of k t) ≡ k
 kind-is kind.Dash t = refl
@@ -81,16 +96,12 @@ kind-is kind.Quoted t = refl
 kind-is kind.Anchor t = refl
 kind-is kind.Alias t = refl
 
-pub second-none : (ps : List Packed) (s : List ℕ) → length ps < 2 → second_kind (unpacked ps s) ≡ None
-second-none [] s few = refl
-second-none (p ∷ []) s few = refl
-second-none (p ∷ q ∷ ps) s few = absurd (omega arith)
+pub first_kind-is : (ps : List Packed) (s : List ℕ)
+    → slice_get (map (λ (p : Packed). p.kind) ps) 0 ≡ first_kind (unpacked ps s)
+first_kind-is [] s = refl
+first_kind-is (p ∷ ps) s = ap Some (sym (kind-is p.kind (take p.len s)))
 
-second-of : (ps : List Packed) (s : List ℕ) (d : Packed) → 1 < length ps → second_kind (unpacked ps s) ≡ Some (get_or ps 1 d).kind
-second-of [] s d some = absurd (omega arith)
-second-of (p ∷ []) s d some = absurd (omega arith)
-second-of (p ∷ q ∷ ps) s d some = ap Some (kind-is q.kind (take q.len (drop p.len s)))
-
-pub second-left : (ps : List Packed) (taken : ℕ) (s : List ℕ) (d : Packed) → taken + 1 < length ps → second_kind (unpacked (drop taken ps) s) ≡ Some (get_or ps (taken + 1) d).kind
-second-left ps taken s d some =
-    second-of (drop taken ps) s d (omega (arith, length-drop taken ps)) ∙ ap (λ (p : Packed). Some p.kind) (get_or-drop taken ps 1 d)
+pub second_kind-is : (ps : List Packed) (s : List ℕ)
+    → slice_get (map (λ (p : Packed). p.kind) ps) 1 ≡ second_kind (unpacked ps s)
+second_kind-is [] s = refl
+second_kind-is (p ∷ ps) s = first_kind-is ps (drop p.len s)

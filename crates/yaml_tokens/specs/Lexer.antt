@@ -15,7 +15,8 @@ pub record Takes (s : List ℕ) (taken : ℕ) : Type 0 where
   pub boundary : IsCharBoundary s taken
 
 abbrev pub LexesPlain : ℕ → List ℕ → Result (Token × ℕ) TokenFault → Type 0
-LexesPlain depth s (Ok p) = (plain_token depth s ≡ Some (record { token = p.0; rest = drop p.1 s; depth = depth })) × Takes s p.1
+LexesPlain depth s (Ok p) =
+    (plain_token depth s ≡ Some (record { token = p.0; rest = drop p.1 s; depth = depth })) × Takes s p.1
 LexesPlain depth s (Err e) = FailsAs e (plain_token depth s)
 
 -- a token, how many bytes it takes, and the bracket depth after it

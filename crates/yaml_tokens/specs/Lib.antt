@@ -4,6 +4,7 @@ pub mod Quotes
 pub mod Quoted
 pub mod Tokens
 pub mod Packed
+pub mod Arrays
 pub mod TokenKinds
 pub mod Lexer
 pub mod Written

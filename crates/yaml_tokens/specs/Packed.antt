@@ -1,12 +1,12 @@
 -- Tokens whose texts lie behind one another.
-use Rattle.std.specs.Prelude.{◌≡◌, ◌≤◌, ℕ, List, [], ◌∷◌, length, take, drop, Option, Some, None}
+use Rattle.std.specs.Prelude.{◌≡◌, ◌≤◌, ℕ, Bool, true, false, List, [], ◌∷◌, length, take, drop, Option, Some, None}
 use Rattle.std.specs.Str.{IsUtf8}
 use Rattle.yaml_tokens.specs.declared.token.Token.{Token}
 use Rattle.yaml_tokens.specs.declared.token.Token.TheVariants.{Dash, Colon, Open, Close, Comma, Plain, Quoted, Anchor, Alias}
 use Rattle.yaml_tokens.specs.declared.token.TokenKind.{TokenKind}
 use Rattle.yaml_tokens.specs.declared.token.TokenKind.TheVariants as kind
 use Rattle.yaml_tokens.specs.declared.token.Placed.{Placed}
-use Rattle.yaml_tokens.specs.declared.line.Packed.{Packed}
+use Rattle.yaml_tokens.specs.declared.packed.Packed.{Packed}
 
 -- what a token is
 abbrev pub kind_of : Token → TokenKind
@@ -19,6 +19,18 @@ kind_of (Plain text) = kind.Plain
 kind_of (Quoted text) = kind.Quoted
 kind_of (Anchor name) = kind.Anchor
 kind_of (Alias name) = kind.Alias
+
+-- whether a token of a kind has a text
+abbrev pub has_text : TokenKind → Bool
+has_text kind.Dash = false
+has_text kind.Colon = false
+has_text kind.Open = false
+has_text kind.Close = false
+has_text kind.Comma = false
+has_text kind.Plain = true
+has_text kind.Quoted = true
+has_text kind.Anchor = true
+has_text kind.Alias = true
 
 -- its text, or nothing
 abbrev pub text_in : Token → List ℕ

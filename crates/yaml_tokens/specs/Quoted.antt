@@ -31,4 +31,6 @@ EndsAscii s n = (0 < n) × (n ≤ length s) × (slice_index s (n - 1) < 128)
 
 -- what a number means, with so many digits to come
 abbrev pub digits_from : ℕ → ℕ → List ℕ → Reads
-digits_from left value s = if left == 0 then after_character (character value) (double_from in_text s) else double_from (in_number left value) s
+digits_from left value s =
+    if left == 0 then after_character (character value) (double_from in_text s)
+    else double_from (in_number left value) s

@@ -1,4 +1,5 @@
--- Texts in quotes. Each reads the characters after the opening quote, and gives the text and what is left behind the closing one.
+-- Texts in quotes. Each reads the characters after the opening quote, and gives the text and what is left behind the
+-- closing one.
 use Rattle.std.specs.Prelude.{ℕ, ◌+◌, ◌-◌, ◌*◌, Bool, true, false, ◌&&◌, ◌||◌, ◌==◌, nat_lt, nat_le, if◌then◌else◌, List, [], ◌∷◌, ◌++◌, Option, Some, None, option_map, option_and_then, encode_utf8}
 
 -- a text that was read, and what is left of the line
@@ -31,11 +32,12 @@ hex_value b =
 -- the character that an escape of one character means: \0 \a \b \t \n \v \f \r \e \" \/ \\ \space \N \_ \L \P
 abbrev pub simple_escape : ℕ → Option ℕ
 simple_escape b =
-    if b == 48 then Some 0 else (if b == 97 then Some 7 else (if b == 98 then Some 8 else (if b == 116 then Some 9
-    else (if b == 110 then Some 10 else (if b == 118 then Some 11 else (if b == 102 then Some 12 else (if b == 114 then Some 13
-    else (if b == 101 then Some 27 else (if b == 34 then Some 34 else (if b == 47 then Some 47 else (if b == 92 then Some 92
-    else (if b == 32 then Some 32 else (if b == 78 then Some 133 else (if b == 95 then Some 160 else (if b == 76 then Some 8232
-    else (if b == 80 then Some 8233 else None))))))))))))))))
+    if b == 48 then Some 0 else (if b == 97 then Some 7 else (if b == 98 then Some 8
+    else (if b == 116 then Some 9 else (if b == 110 then Some 10 else (if b == 118 then Some 11
+    else (if b == 102 then Some 12 else (if b == 114 then Some 13 else (if b == 101 then Some 27
+    else (if b == 34 then Some 34 else (if b == 47 then Some 47 else (if b == 92 then Some 92
+    else (if b == 32 then Some 32 else (if b == 78 then Some 133 else (if b == 95 then Some 160
+    else (if b == 76 then Some 8232 else (if b == 80 then Some 8233 else None))))))))))))))))
 
 -- how many hexadecimal digits follow \x, \u and \U
 abbrev pub hex_count : ℕ → ℕ
@@ -50,7 +52,8 @@ abbrev pub after_character : Option ℕ → Reads → Reads
 after_character None read = None
 after_character (Some c) read = after_front (encode_utf8 c) read
 
--- Inside double quotes: in the text itself, behind a backslash, or in a number with so many digits to come and a value so far.
+-- Inside double quotes: in the text itself, behind a backslash, or in a number with so many digits to come and a value
+-- so far.
 pub data Within : Type 0 where
   in_text : Within
   in_escape : Within
@@ -58,9 +61,14 @@ pub data Within : Type 0 where
 
 abbrev pub double_from : Within → List ℕ → Reads
 double_from w [] = None
-double_from in_text (b ∷ bs) = if b == 34 then Some ([], bs) else (if b == 92 then double_from in_escape bs else after_front (b ∷ []) (double_from in_text bs))
+double_from in_text (b ∷ bs) =
+    if b == 34 then Some ([], bs)
+    else (if b == 92 then double_from in_escape bs else after_front (b ∷ []) (double_from in_text bs))
 double_from in_escape (b ∷ bs) =
-    if nat_lt 0 (hex_count b) then double_from (in_number (hex_count b) 0) bs else after_character (simple_escape b) (double_from in_text bs)
+    if nat_lt 0 (hex_count b) then double_from (in_number (hex_count b) 0) bs
+    else after_character (simple_escape b) (double_from in_text bs)
 double_from (in_number n value) (b ∷ bs) = option_and_then
-    (λ (h : ℕ). if n == 1 then after_character (character (value * 16 + h)) (double_from in_text bs) else double_from (in_number (n - 1) (value * 16 + h)) bs)
+    (λ (h : ℕ).
+    if n == 1 then after_character (character (value * 16 + h)) (double_from in_text bs)
+    else double_from (in_number (n - 1) (value * 16 + h)) bs)
     (hex_value b)

@@ -95,7 +95,8 @@ ends_quoted depth bs = is_blank_next bs || (if depth == 0 then is_colon_next bs 
 
 -- an ASCII letter or digit, _ or -
 abbrev pub is_name : ℕ → Bool
-is_name b = (nat_le 48 b && nat_le b 57) || (nat_le 65 b && nat_le b 90) || (nat_le 97 b && nat_le b 122) || b == 95 || b == 45
+is_name b = (nat_le 48 b && nat_le b 57) || (nat_le 65 b && nat_le b 90) || (nat_le 97 b && nat_le b 122)
+    || b == 95 || b == 45
 
 abbrev pub put_character : ℕ → List ℕ × List ℕ → List ℕ × List ℕ
 put_character b (name, rest) = (b ∷ name, rest)
@@ -128,17 +129,20 @@ pub record Lexed : Type 0 where
   pub depth : ℕ
 
 abbrev pub plain_token : ℕ → List ℕ → Option Lexed
-plain_token depth bs = option_map (λ p. record { token = Plain (without_end p.0); rest = p.1; depth = depth }) (plain depth bs)
+plain_token depth bs =
+    option_map (λ p. record { token = Plain (without_end p.0); rest = p.1; depth = depth }) (plain depth bs)
 
 abbrev pub quoted_token : ℕ → Reads → Option Lexed
 quoted_token depth read = option_and_then
-    (λ (p : List ℕ × List ℕ). if ends_quoted depth p.1 then Some (record { token = Quoted p.0; rest = p.1; depth = depth }) else None)
+    (λ (p : List ℕ × List ℕ).
+    if ends_quoted depth p.1 then Some (record { token = Quoted p.0; rest = p.1; depth = depth }) else None)
     read
 
 -- an anchor or an alias
 abbrev pub name_token : (List ℕ → Token) → ℕ → List ℕ × List ℕ → Option Lexed
 name_token make depth ([], rest) = None
-name_token make depth (b ∷ bs, rest) = if ends_name depth rest then Some (record { token = make (b ∷ bs); rest = rest; depth = depth }) else None
+name_token make depth (b ∷ bs, rest) =
+    if ends_name depth rest then Some (record { token = make (b ∷ bs); rest = rest; depth = depth }) else None
 
 -- The most brackets that are open at once: a list inside 64 others has more levels than a tree may have.
 abbrev pub most_open : ℕ
@@ -146,7 +150,8 @@ most_open = 64
 
 -- a bracket that opens a list
 abbrev pub open_token : ℕ → List ℕ → Option Lexed
-open_token depth bs = if nat_lt depth most_open then Some (record { token = Open; rest = bs; depth = depth + 1 }) else None
+open_token depth bs =
+    if nat_lt depth most_open then Some (record { token = Open; rest = bs; depth = depth + 1 }) else None
 
 abbrev pub bracket_token : ℕ → ℕ → List ℕ → Option Lexed
 bracket_token depth b bs =
@@ -194,7 +199,8 @@ tokens_from (suc n) width spaced depth was (b ∷ bs) =
     if b == 32 then tokens_from n width true depth was bs
     else (if b == 35 && spaced then Some ([], depth)
     else option_and_then
-    (λ (x : Lexed). with_front (record { column = width - length (b ∷ bs); token = x.token }) (tokens_from n width false x.depth (seen was x.token) x.rest))
+    (λ (x : Lexed). with_front (record { column = width - length (b ∷ bs); token = x.token })
+    (tokens_from n width false x.depth (seen was x.token) x.rest))
     (token_at depth was b bs))
 
 -- ---- the lines of a text
@@ -213,20 +219,24 @@ abbrev pub is_marker : List ℕ → Bool
 is_marker (a ∷ b ∷ c ∷ bs) = ((a == 45 && b == 45 && c == 45) || (a == 46 && b == 46 && c == 46)) && is_blank_next bs
 is_marker _ = false
 
--- whether a line with tokens is kept: the first may be the start of a document, and is dropped; no other may be a marker
+-- whether a line with tokens is kept: the first may be the start of a document, and is dropped; no other may be a
+-- marker
 abbrev pub kept : Bool → List ℕ → Option Bool
 kept first l = if first && is_start l then Some false else (if is_marker l then None else Some true)
 
 -- the lines with one more at the front; one without tokens is dropped
 abbrev pub put_line : Bool → List ℕ → Line → (Bool → Option (List Line)) → Option (List Line)
 put_line first l [] more = more first
-put_line first l (t ∷ ts) more = option_and_then (λ k. if k then option_map (λ ls. (t ∷ ts) ∷ ls) (more false) else more false) (kept first l)
+put_line first l (t ∷ ts) more =
+    option_and_then (λ k. if k then option_map (λ ls. (t ∷ ts) ∷ ls) (more false) else more false) (kept first l)
 
 -- the tokens of a line without control characters
 abbrev pub line_tokens : ℕ → List ℕ → Option (Line × ℕ)
-line_tokens depth l = if list_any is_refused l then None else tokens_from (length l) (length l) true depth before.Nothing l
+line_tokens depth l =
+    if list_any is_refused l then None else tokens_from (length l) (length l) true depth before.Nothing l
 
--- The lines that have tokens. The bracket depth goes on from line to line; `first` says that no line with tokens came before.
+-- The lines that have tokens. The bracket depth goes on from line to line; `first` says that no line with tokens came
+-- before.
 abbrev pub lines_tokens : Bool → ℕ → List (List ℕ) → Option (List Line)
 lines_tokens first depth [] = Some []
 lines_tokens first depth (l ∷ ls) =

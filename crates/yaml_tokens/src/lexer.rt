@@ -229,7 +229,8 @@ fn begins_comment(spaced: bool, b: u8) -> bool
 
 /// The tokens of a line that begins at the bracket depth `start`, and the depth at its end.
 pub fn tokens_of(alloc: Global, start: usize, line: &str) -> Result<(Line, usize), TokenFault>
-    ensures tokens { Gives result (spec.tokens_from (length line.now) (length line.now) true start Before.Nothing line.now) }
+    ensures tokens { Gives result
+        (spec.tokens_from (length line.now) (length line.now) true start Before.Nothing line.now) }
     ensures rising { IfOk result (λ p. IsRising p.0) }
 {
     let mut tokens = Line::new(alloc);

@@ -7,6 +7,7 @@ mod lexer;
 mod line;
 mod lines;
 mod name;
+mod packed;
 mod plain;
 mod quoted;
 mod text;

@@ -1,26 +1,18 @@
 //! The tokens of a line, which are taken from the front.
-ghost use Rattle.std.specs.Prelude.{◌≡◌, [], ◌∷◌, ◌++◌, ◌≤◌, drop, length, ◌↔◌, IsTrue, IfOk, MatchOption};
+ghost use Rattle.std.specs.Prelude.{◌≡◌, [], ◌∷◌, ◌++◌, drop, length, ◌↔◌, IsTrue, IfOk, MatchOption};
 ghost use Rattle.yaml_tokens.specs.Packed.{first_column, first_kind, second_kind, kind_of, text_in};
 
+use crate::packed::{Packed, PackedTokens, behind};
 use crate::token::{Placed, TokenKind, token_of};
 use std::alloc::{AllocError, Global};
 use std::marker::Model;
 use std::str;
 
-/// A token without its text: where in its line it begins, what it is, and how many bytes its text has.
-#[derive(Clone, Copy, Debug)]
-pub(crate) struct Packed {
-    column: u32,
-    kind: TokenKind,
-    len: u32,
-}
-
 /// The tokens of a line that are left, in the order of the text. The column of the first of a whole line
-/// is the indentation. A token takes 12 bytes, and all texts lie behind one another.
+/// is the indentation. A token costs 5 bytes, and one with a text 4 bytes more and the bytes of the text.
 #[derive(Drop)]
 pub struct Line {
-    tokens: Vec<Packed>,
-    taken: usize,
+    tokens: PackedTokens,
     texts: Vec<u8>,
     read: usize,
 }
@@ -36,15 +28,18 @@ impl Model for Line {
 
     ghost coded = { coded_list the_placed.the_row.coded };
 
-    ghost view = { λ line. unpacked (drop line.taken line.tokens.items) (drop line.read line.texts.items) };
+    ghost view = { λ line. unpacked line.tokens (drop line.read line.texts.items) };
 
-    ghost invariant = { λ line. (line.taken ≤ length line.tokens.items) × (line.read ≤ length line.texts.items) × ArePacked (drop line.taken line.tokens.items) (drop line.read line.texts.items) };
+    ghost invariant = { λ line. (line.read ≤ length line.texts.items)
+        × ArePacked line.tokens (drop line.read line.texts.items) };
 }
 
-/// A token without its text. Out of memory if it does not fit into 12 bytes, which no token of a text of
-/// 64 MiB does.
+/// A token without its text. Out of memory if its column or the length of its text does not fit into 32 bits,
+/// which does not occur in a text of 64 MiB.
 fn without_text(placed: &Placed) -> Result<Packed, AllocError>
-    ensures { IfOk result (λ p. (p.column ≡ placed.now.column) × (p.kind ≡ kind_of placed.now.token) × (p.len ≡ length (text_in placed.now.token))) }
+    ensures column { IfOk result (λ p. p.column ≡ placed.now.column) }
+    ensures kind { IfOk result (λ p. p.kind ≡ kind_of placed.now.token) }
+    ensures len { IfOk result (λ p. p.len ≡ length (text_in placed.now.token)) }
 {
     let Ok(column) = u32::try_from(placed.column) else {
         return Err(AllocError);
@@ -59,22 +54,13 @@ fn without_text(placed: &Placed) -> Result<Packed, AllocError>
     })
 }
 
-/// What is from a place on.
-fn behind<T>(all: &[T], at: usize) -> &[T]
-    requires { at ≤ length all.now }
-    ensures { result.now ≡ drop at all.now }
-{
-    &all[at..]
-}
-
 impl Line {
     /// No token. Takes no memory.
     pub fn new(alloc: Global) -> Self
         ensures { result ≡ [] }
     {
         Line {
-            tokens: Vec::new(alloc),
-            taken: 0,
+            tokens: PackedTokens::new(alloc),
             texts: Vec::new(alloc),
             read: 0,
         }
@@ -84,7 +70,7 @@ impl Line {
     pub fn len(&self) -> usize
         ensures { result ≡ length self.now }
     {
-        self.tokens.len() - self.taken
+        self.tokens.len()
     }
 
     /// Whether none is left.
@@ -98,30 +84,24 @@ impl Line {
     pub fn column(&self) -> usize
         ensures { result ≡ first_column self.now }
     {
-        if self.taken == self.tokens.len() {
-            return 0;
+        match self.tokens.first() {
+            Some(first) => first.column as usize,
+            None => 0,
         }
-        self.tokens[self.taken].column as usize
     }
 
     /// What the first is.
     pub fn first_kind(&self) -> Option<TokenKind>
         ensures { result ≡ first_kind self.now }
     {
-        if self.taken == self.tokens.len() {
-            return None;
-        }
-        Some(self.tokens[self.taken].kind)
+        self.tokens.kind(0)
     }
 
     /// What the second is.
     pub fn second_kind(&self) -> Option<TokenKind>
         ensures { result ≡ second_kind self.now }
     {
-        if self.tokens.len() - self.taken < 2 {
-            return None;
-        }
-        Some(self.tokens[self.taken + 1].kind)
+        self.tokens.kind(1)
     }
 
     /// The line with one more token at the end.
@@ -129,16 +109,14 @@ impl Line {
         ensures { IfOk result (λ line. line ≡ self ++ placed ∷ []) }
     {
         let Line {
-            mut tokens,
-            taken,
+            tokens,
             mut texts,
             read,
         } = self;
-        tokens.push(without_text(&placed)?)?;
+        let tokens = tokens.push(without_text(&placed)?)?;
         texts.extend_from_slice(placed.token.text().as_bytes())?;
         Ok(Line {
             tokens,
-            taken,
             texts,
             read,
         })
@@ -146,18 +124,18 @@ impl Line {
 
     /// Takes the first token off, in constant time but for its text.
     pub fn next(&mut self, alloc: Global) -> Result<Option<Placed>, AllocError>
-        ensures { IfOk result (λ first. MatchOption first ((self.old ≡ []) × (self.new ≡ [])) (λ token. self.old ≡ token ∷ self.new)) }
+        ensures { IfOk result (λ first. MatchOption first ((self.old ≡ []) × (self.new ≡ []))
+            (λ token. self.old ≡ token ∷ self.new)) }
     {
-        if self.taken == self.tokens.len() {
+        let Some(Packed { column, kind, len }) = self.tokens.first() else {
             return Ok(None);
-        }
-        let Packed { column, kind, len } = self.tokens[self.taken];
+        };
         let end = self.read + len as usize;
         let Ok(text) = str::from_utf8(&self.texts[self.read..end]) else {
             unreachable!();
         };
         let token = token_of(alloc, kind, text)?;
-        self.taken += 1;
+        self.tokens.skip();
         self.read = end;
         Ok(Some(Placed {
             column: column as usize,
@@ -169,11 +147,11 @@ impl Line {
     pub fn skip(&mut self)
         ensures { self.new ≡ drop 1 self.old }
     {
-        if self.taken == self.tokens.len() {
+        let Some(first) = self.tokens.first() else {
             return;
-        }
-        self.read += self.tokens[self.taken].len as usize;
-        self.taken += 1;
+        };
+        self.tokens.skip();
+        self.read += first.len as usize;
     }
 
     /// The line with the tokens of `more` at the end.
@@ -181,16 +159,14 @@ impl Line {
         ensures { IfOk result (λ line. line ≡ self ++ more) }
     {
         let Line {
-            mut tokens,
-            taken,
+            tokens,
             mut texts,
             read,
         } = self;
-        tokens.extend_from_slice(behind(&more.tokens, more.taken))?;
+        let tokens = tokens.append(more.tokens)?;
         texts.extend_from_slice(behind(&more.texts, more.read))?;
         Ok(Line {
             tokens,
-            taken,
             texts,
             read,
         })

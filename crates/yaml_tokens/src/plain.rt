@@ -65,7 +65,8 @@ pub fn begins_plain(depth: usize, b: u8, bytes: &[u8], at: usize) -> bool
 /// How many bytes a plain scalar has, with the spaces after it.
 fn plain_len(depth: usize, bytes: &[u8]) -> Option<usize>
     ensures within { IfSome result (λ n. n ≤ length bytes.now) }
-    ensures some { spec.ends_plain depth (slice_index bytes.now 0) (drop 1 bytes.now) ≡ false → 0 < length bytes.now → IfSome result (λ n. 0 < n) }
+    ensures some { spec.ends_plain depth (slice_index bytes.now 0) (drop 1 bytes.now) ≡ false → 0 < length bytes.now
+        → IfSome result (λ n. 0 < n) }
     ensures ends { IfSome result (λ n. n < length bytes.now → slice_index bytes.now n < 128) }
     ensures value { spec.plain depth bytes.now ≡ option_map (λ n. (take n bytes.now, drop n bytes.now)) result }
 {

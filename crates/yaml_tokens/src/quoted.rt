@@ -135,7 +135,8 @@ fn character(value: u32) -> Option<char>
 fn hex_character(bytes: &[u8], count: usize) -> Option<char>
     requires some { 0 < count }
     requires few { count ≤ 8 }
-    ensures value { spec.double_from (spec.in_number count 0) bytes.now ≡ up_to_escape bytes.now (option_map (λ c. (c, count)) result) }
+    ensures value { spec.double_from (spec.in_number count 0) bytes.now
+        ≡ up_to_escape bytes.now (option_map (λ c. (c, count)) result) }
     ensures ascii { IfSome result (λ _. EndsAscii bytes.now count) }
 {
     let mut value = 0;

@@ -1,6 +1,6 @@
 //! The tokens of a line.
 ghost use Rattle.std.specs.Prelude.{◌≡◌, IfOk};
-ghost use Rattle.yaml_tokens.specs.Packed.{kind_of, text_in, token_of};
+ghost use Rattle.yaml_tokens.specs.Packed.{has_text, kind_of, text_in, token_of};
 
 use crate::text::Text;
 use std::alloc::{AllocError, Global};
@@ -46,6 +46,25 @@ pub enum Before {
     Nothing,
     Scalar,
     Other,
+}
+
+impl TokenKind {
+    /// Whether a token of the kind has a text.
+    pub(crate) fn has_text(self) -> bool
+        ensures { result ≡ has_text self }
+    {
+        match self {
+            TokenKind::Dash => false,
+            TokenKind::Colon => false,
+            TokenKind::Open => false,
+            TokenKind::Close => false,
+            TokenKind::Comma => false,
+            TokenKind::Plain => true,
+            TokenKind::Quoted => true,
+            TokenKind::Anchor => true,
+            TokenKind::Alias => true,
+        }
+    }
 }
 
 impl Token {
