@@ -12,8 +12,7 @@ abbrev pub task_of : ProblemValue → List Example → Task
 task_of problem examples =
     record {
       directions = map (λ criterion. direction_of criterion.scale) problem.criteria;
-      categories = length
-          problem.categories;
+      categories = length problem.categories;
       examples = examples;
     }
 
