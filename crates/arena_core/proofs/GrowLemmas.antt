@@ -3,7 +3,7 @@ use Rattle.std.proofs.Common.{◌≡◌, ℕ, zero, suc, ◌+◌, ◌-◌, ◌*�
 use Rattle.std.specs.List.{Contains}
 use Rattle.std.proofs.lemmas.List.{get_or_past, get_or-replicate, length-replicate, length-append, length-map, get_or_append_left, get_or-append_right, map-append, take_all}
 use Rattle.std.proofs.lemmas.Bool.{cases_lt}
-use Rattle.arena_core.specs.Links.{none, IsChain, Holds, Keeps, HasRoom, nexts, befores, owners, chains_of}
+use Rattle.arena_core.specs.Links.{none, place_in, IsChain, Holds, Keeps, HasRoom, nexts, befores, owners, chains_of}
 use Rattle.arena_core.specs.declared.links.Link.{Link}
 use Rattle.arena_core.proofs.KeepsLemmas.{keeps_from, holds_cast}
 
@@ -60,31 +60,31 @@ grown_holds heads next before owner chains m h few =
       ];
     }
 
-map_blank : (f : Link → ℕ) (m : ℕ) (b : Link) → map f (replicate m b) ≡ replicate m (f b)
+map_blank : {L : Type 0} (f : Link L → ℕ) (m : ℕ) (b : Link L) → map f (replicate m b) ≡ replicate m (f b)
 map_blank f zero b = refl
 map_blank f (suc m) b = ap (λ xs. f b ∷ xs) (map_blank f m b)
 
-pub grown : (heads : List ℕ) (links links' : List Link) (m n : ℕ) (b : Link) → Keeps heads links → b.next ≡ none → b.before ≡ none → b.owner ≡ none → length links ≤ n → n < none → links' ≡ take n links ++ replicate (n - length links) b → Keeps heads links' × (chains_of heads links' ≡ chains_of heads links)
-grown heads links links' m n b h en eb eo le few is =
+pub grown : {L : Type 0} (at : L → ℕ) (heads : List ℕ) (links links' : List (Link L)) (n : ℕ) (b : Link L) → Keeps at heads links → b.next ≡ none → b.before ≡ none → place_in at b.owner ≡ none → length links ≤ n → n < none → links' ≡ take n links ++ replicate (n - length links) b → Keeps at heads links' × (chains_of heads links' ≡ chains_of heads links)
+grown {L} at heads links links' n b h en eb eo le few is =
     let all : links' ≡ links ++ replicate (n - length links) b = is ∙ ap (λ xs. xs ++ replicate (n - length links) b) (take_all n links le) in
-    let spread : (f : Link → ℕ) → f b ≡ none → map f links' ≡ map f links ++ replicate (n - length links) none = λ f e.
+    let spread : (f : Link L → ℕ) → f b ≡ none → map f links' ≡ map f links ++ replicate (n - length links) none = λ f e.
     ap (map f) all ∙ map-append f links (replicate (n - length links) b) ∙ ap (λ ys. map f links ++ ys) (map_blank f (n - length links) b ∙ ap (replicate (n - length links)) e) in
-    let size : length (nexts links) ≡ length links = length-map links (λ (l : Link). l.next) in
-    let more = grown_holds heads (nexts links) (befores links) (owners links) (chains_of heads links) (n - length links) h (omega (arith, size, le, few)) in
-    keeps_from heads links' (chains_of heads links) (holds_cast heads (nexts links ++ replicate (n - length links) none) (befores links ++ replicate (n - length links) none) (owners links ++ replicate (n - length links) none) heads (nexts links') (befores links') (owners links') (chains_of heads links) more refl (spread (λ l. l.next) en) (spread (λ l. l.before) eb) (spread (λ l. l.owner) eo))
+    let size : length (nexts links) ≡ length links = length-map links (λ (l : Link L). l.next) in
+    let more = grown_holds heads (nexts links) (befores links) (owners at links) (chains_of heads links) (n - length links) h (omega (arith, size, le, few)) in
+    keeps_from at heads links' (chains_of heads links) (holds_cast heads (nexts links ++ replicate (n - length links) none) (befores links ++ replicate (n - length links) none) (owners at links ++ replicate (n - length links) none) heads (nexts links') (befores links') (owners at links') (chains_of heads links) more refl (spread (λ l. l.next) en) (spread (λ l. l.before) eb) (spread (λ l. place_in at l.owner) eo))
 
-pub new_room : (n : ℕ) (heads : List ℕ) (links : List Link) → heads ≡ replicate n none → links ≡ [] → n < none → HasRoom heads links 0 × (chains_of heads links ≡ replicate n [])
-new_room n heads links eh el few =
-    let cast = holds_cast (replicate n none) [] [] [] heads (nexts links) (befores links) (owners links) (replicate n []) (empty_holds n few) eh (ap nexts el) (ap befores el) (ap owners el) in
-    let all = keeps_from heads links (replicate n []) cast in
+pub new_room : {L : Type 0} (at : L → ℕ) (n : ℕ) (heads : List ℕ) (links : List (Link L)) → heads ≡ replicate n none → links ≡ [] → n < none → HasRoom at heads links 0 × (chains_of heads links ≡ replicate n [])
+new_room at n heads links eh el few =
+    let cast = holds_cast (replicate n none) [] [] [] heads (nexts links) (befores links) (owners at links) (replicate n []) (empty_holds n few) eh (ap nexts el) (ap befores el) (ap (owners at) el) in
+    let all = keeps_from at heads links (replicate n []) cast in
     (record { keeps = all.0; wide = ap length el }, all.1)
 
-pub more_room : (heads : List ℕ) (links links' : List Link) (room clauses n k : ℕ) (b : Link) → HasRoom heads links room → b.next ≡ none → b.before ≡ none → b.owner ≡ none → room < clauses → n ≡ min (2 * clauses) 4200000000 → k ≡ length links → links' ≡ take n links ++ replicate (n - k) b
-    → HasRoom heads links' clauses × (chains_of heads links' ≡ chains_of heads links)
-more_room heads links links' room clauses n k b h en eb eo lt is ek e =
+pub more_room : {L : Type 0} (at : L → ℕ) (heads : List ℕ) (links links' : List (Link L)) (room clauses n k : ℕ) (b : Link L) → HasRoom at heads links room → b.next ≡ none → b.before ≡ none → place_in at b.owner ≡ none → room < clauses → n ≡ min (2 * clauses) 4200000000 → k ≡ length links → links' ≡ take n links ++ replicate (n - k) b
+    → HasRoom at heads links' clauses × (chains_of heads links' ≡ chains_of heads links)
+more_room at heads links links' room clauses n k b h en eb eo lt is ek e =
     let le : length links ≤ n = omega (arith, h.wide, lt, is) in
     let few : n < none = omega (arith, is) in
     let same : links' ≡ take n links ++ replicate (n - length links) b = e ∙ ap (λ j. take n links ++ replicate (n - j) b) ek in
-    let done = grown heads links links' 0 n b h.keeps en eb eo le few same in
+    let done = grown at heads links links' n b h.keeps en eb eo le few same in
     let size : length links' ≡ n = ap length (same ∙ ap (λ xs. xs ++ replicate (n - length links) b) (take_all n links le)) ∙ length-append links (replicate (n - length links) b) ∙ ap (λ j. length links + j) (length-replicate (n - length links) b) ∙ (let s : length links + (n - length links) ≡ n = omega (arith, le) in s) in
     (record { keeps = done.0; wide = size ∙ is }, done.1)

@@ -18,20 +18,20 @@ holds_cast heads next before owner heads' next' before' owner' chains a eh en eb
     subst S (sym eo) (subst R (sym eb) (subst Q (sym en) (subst P (sym eh) a)))
 
 -- arrays that hold chains keep them
-pub keeps_from : (heads : List ℕ) (links : List Link) (chains : List (List ℕ)) → Holds heads (nexts links) (befores links) (owners links) chains → Keeps heads links × (chains_of heads links ≡ chains)
-keeps_from heads links chains a =
-    let e : chains_of heads links ≡ chains = walks_are heads (nexts links) (befores links) (owners links) chains a in
-    let P : List (List ℕ) → Type 0 = λ c. Holds heads (nexts links) (befores links) (owners links) c in
+pub keeps_from : {L : Type 0} (at : L → ℕ) (heads : List ℕ) (links : List (Link L)) (chains : List (List ℕ)) → Holds heads (nexts links) (befores links) (owners at links) chains → Keeps at heads links × (chains_of heads links ≡ chains)
+keeps_from at heads links chains a =
+    let e : chains_of heads links ≡ chains = walks_are heads (nexts links) (befores links) (owners at links) chains a in
+    let P : List (List ℕ) → Type 0 = λ c. Holds heads (nexts links) (befores links) (owners at links) c in
     (subst P (sym e) a, e)
 
-pub linked : (heads heads' : List ℕ) (links links' : List Link) (s p h : ℕ) → Keeps heads links → p < length heads → s < length links → get_or (owners links) s none ≡ none → h ≡ get_or heads p 0 → heads' ≡ set heads p s
-    → nexts links' ≡ set (nexts links) s h → befores links' ≡ set (set (befores links) s none) h s → owners links' ≡ set (owners links) s p → Keeps heads' links' × (chains_of heads' links' ≡ put_first (chains_of heads links) p s)
-linked heads heads' links links' s p h a lp ls free eh e1 e2 e3 e4 =
+pub linked : {L : Type 0} (at : L → ℕ) (heads heads' : List ℕ) (links links' : List (Link L)) (s p q h : ℕ) → Keeps at heads links → p < length heads → s < length links → get_or (owners at links) s none ≡ none → q ≡ p → h ≡ get_or heads q 0 → heads' ≡ set heads q s
+    → nexts links' ≡ set (nexts links) s h → befores links' ≡ set (set (befores links) s none) h s → owners at links' ≡ set (owners at links) s p → Keeps at heads' links' × (chains_of heads' links' ≡ put_first (chains_of heads links) p s)
+linked at heads heads' links links' s p q h a lp ls free eq eh e1 e2 e3 e4 =
     let size : s < length (nexts links) = simp length-map ls in
-    let head : get_or heads p none ≡ h = get_or_default heads p none 0 lp ∙ sym eh in
-    let P : ℕ → Type 0 = λ x. Holds (set heads p s) (set (nexts links) s x) (set (set (befores links) s none) x s) (set (owners links) s p) (put_first (chains_of heads links) p s) in
-    let done = subst P head (link_holds heads (nexts links) (befores links) (owners links) (chains_of heads links) p s a lp size free) in
-    keeps_from heads' links' (put_first (chains_of heads links) p s) (holds_cast (set heads p s) (set (nexts links) s h) (set (set (befores links) s none) h s) (set (owners links) s p) heads' (nexts links') (befores links') (owners links') (put_first (chains_of heads links) p s) done e1 e2 e3 e4)
+    let head : get_or heads p none ≡ h = get_or_default heads p none 0 lp ∙ ap (λ n. get_or heads n 0) (sym eq) ∙ sym eh in
+    let P : ℕ → Type 0 = λ x. Holds (set heads p s) (set (nexts links) s x) (set (set (befores links) s none) x s) (set (owners at links) s p) (put_first (chains_of heads links) p s) in
+    let done = subst P head (link_holds heads (nexts links) (befores links) (owners at links) (chains_of heads links) p s a lp size free) in
+    keeps_from at heads' links' (put_first (chains_of heads links) p s) (holds_cast (set heads p s) (set (nexts links) s h) (set (set (befores links) s none) h s) (set (owners at links) s p) heads' (nexts links') (befores links') (owners at links') (put_first (chains_of heads links) p s) done (e1 ∙ ap (λ n. set heads n s) eq) e2 e3 e4)
 
 -- a head that is a seat
 pub head_inside : (heads next before owner : List ℕ) (chains : List (List ℕ)) (p : ℕ) → Holds heads next before owner chains → p < length heads → get_or heads p 0 ≢ none → get_or heads p 0 < length next
@@ -56,8 +56,8 @@ no_first heads next before owner chains chains' p a e lp out =
     first_of_chain next before owner p (get_or heads p none) (get_or chains p []) (a.chain p lp) a.few_seats (get_or_default heads p none 0 lp ∙ out) ∙ ap (λ c. slice_get (get_or c p []) 0) e
 
 -- a write at no seat, after one at a seat
-pub befores_few : (heads : List ℕ) (links links' : List Link) (s : ℕ) → Keeps heads links → befores links' ≡ set (befores links) s none → (v h : ℕ) → h ≡ none → set (befores links) s none ≡ set (set (befores links) s none) h v
-befores_few heads links links' s a e v h is = set_none (set (befores links) s none) h v (simp length-set (omega (arith, a.before_size, a.few_seats))) is
+pub befores_few : {L : Type 0} (at : L → ℕ) (heads : List ℕ) (links links' : List (Link L)) (s : ℕ) → Keeps at heads links → befores links' ≡ set (befores links) s none → (v h : ℕ) → h ≡ none → set (befores links) s none ≡ set (set (befores links) s none) h v
+befores_few at heads links links' s a e v h is = set_none (set (befores links) s none) h v (simp length-set (omega (arith, a.before_size, a.few_seats))) is
 
 pub places_are : (heads next before owner : List ℕ) (chains chains' : List (List ℕ)) (p : ℕ) → Holds heads next before owner chains → chains ≡ chains' → p < length chains' → p < length heads
 places_are heads next before owner chains chains' p a e lp = omega (arith, a.count, ap length e, lp)

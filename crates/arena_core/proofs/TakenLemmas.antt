@@ -85,13 +85,19 @@ next_inside heads next before owner chains s h ls owned =
       | inr last ↦ inr (a ∙ get_or_past xs (found.0 + 1) none last)
     ]
 
-pub unlinked : (heads heads' : List ℕ) (links links' : List Link) (s q b a : ℕ) → Keeps heads links → s < length links → q ≢ none → q ≡ get_or (owners links) s none → b ≡ get_or (befores links) s none → a ≡ get_or (nexts links) s none
-    → heads' ≡ cond (b == none) (set heads q a) heads → nexts links' ≡ set (nexts links) b a → befores links' ≡ set (befores links) a b → owners links' ≡ set (owners links) s none
-    → Keeps heads' links' × (chains_of heads' links' ≡ taken_out (chains_of heads links) s)
-unlinked heads heads' links links' s q b a h ls owned eq eb ea e1 e2 e3 e4 =
+-- the place of a seat's literal
+pub owner_inside : {L : Type 0} (at : L → ℕ) (heads : List ℕ) (links : List (Link L)) (s q : ℕ) → Keeps at heads links → s < length links → get_or (owners at links) s none ≢ none → q ≡ get_or (owners at links) s none → q < length heads
+owner_inside at heads links s q h ls owned e =
+    let found = stands heads (nexts links) (befores links) (owners at links) (chains_of heads links) s h (simp length-map ls) owned in
+    omega (arith, found.1.place, e)
+
+pub unlinked : {L : Type 0} (at : L → ℕ) (heads heads' : List ℕ) (links links' : List (Link L)) (s q b a : ℕ) → Keeps at heads links → s < length links → q ≢ none → q ≡ get_or (owners at links) s none → b ≡ get_or (befores links) s none → a ≡ get_or (nexts links) s none
+    → heads' ≡ cond (b == none) (set heads q a) heads → nexts links' ≡ set (nexts links) b a → befores links' ≡ set (befores links) a b → owners at links' ≡ set (owners at links) s none
+    → Keeps at heads' links' × (chains_of heads' links' ≡ taken_out (chains_of heads links) s)
+unlinked at heads heads' links links' s q b a h ls owned eq eb ea e1 e2 e3 e4 =
     let next : List ℕ = nexts links in
     let before : List ℕ = befores links in
-    let owner : List ℕ = owners links in
+    let owner : List ℕ = owners at links in
     let chains : List (List ℕ) = chains_of heads links in
     let size : s < length next = simp length-map ls in
     let found = stands heads next before owner chains s h size (λ e. owned (eq ∙ e)) in
@@ -113,22 +119,22 @@ unlinked heads heads' links links' s q b a h ls owned eq eb ea e1 e2 e3 e4 =
     ap (λ x. get_or x q none) (taken none') ∙ get_or-set_same heads q a none w.place) in
     let k1 : 0 < k → get_or heads' q none ≡ get_or heads q none = λ lt. ap (λ x. get_or x q none) (left (λ e. (let z : k ≡ 0 = start e in omega (arith, z, lt)))) in
     let done = unlink_holds heads next before owner heads' chains q s k b a h w.place w.within w.is (sym eb) (sym ea) sizes apart k0 k1 in
-    let cast = holds_cast heads' (set next b a) (set before a b) (set owner s none) heads' (nexts links') (befores links') (owners links') (set chains q (remove (get_or chains q []) k)) done refl e2 e3 e4 in
-    let all = keeps_from heads' links' (set chains q (remove (get_or chains q []) k)) cast in
+    let cast = holds_cast heads' (set next b a) (set before a b) (set owner s none) heads' (nexts links') (befores links') (owners at links') (set chains q (remove (get_or chains q []) k)) done refl e2 e3 e4 in
+    let all = keeps_from at heads' links' (set chains q (remove (get_or chains q []) k)) cast in
     (all.0, all.1 ∙ taken_out_is heads next before owner chains q s k h w.place w.within w.is)
 
-pub before_seat : (heads : List ℕ) (links : List Link) (s b n : ℕ) → Keeps heads links → s < length links → get_or (owners links) s none ≢ none → b ≡ get_or (befores links) s none → length links ≡ n → (b < n) ⊎ (b ≡ none)
-before_seat heads links s b n h ls owned e size =
-    let same : length (nexts links) ≡ length links = length-map links (λ (l : Link). l.next) in
-    elim (before_inside heads (nexts links) (befores links) (owners links) (chains_of heads links) s h (omega (arith, same, ls)) owned) [
+pub before_seat : {L : Type 0} (at : L → ℕ) (heads : List ℕ) (links : List (Link L)) (s b n : ℕ) → Keeps at heads links → s < length links → get_or (owners at links) s none ≢ none → b ≡ get_or (befores links) s none → length links ≡ n → (b < n) ⊎ (b ≡ none)
+before_seat {L} at heads links s b n h ls owned e size =
+    let same : length (nexts links) ≡ length links = length-map links (λ (l : Link L). l.next) in
+    elim (before_inside heads (nexts links) (befores links) (owners at links) (chains_of heads links) s h (omega (arith, same, ls)) owned) [
       | inl lt ↦ inl (omega (arith, lt, same, e, size))
       | inr out ↦ inr (e ∙ out)
     ]
 
-pub next_seat : (heads : List ℕ) (links : List Link) (s a n : ℕ) → Keeps heads links → s < length links → get_or (owners links) s none ≢ none → a ≡ get_or (nexts links) s none → length links ≡ n → (a < n) ⊎ (a ≡ none)
-next_seat heads links s a n h ls owned e size =
-    let same : length (nexts links) ≡ length links = length-map links (λ (l : Link). l.next) in
-    elim (next_inside heads (nexts links) (befores links) (owners links) (chains_of heads links) s h (omega (arith, same, ls)) owned) [
+pub next_seat : {L : Type 0} (at : L → ℕ) (heads : List ℕ) (links : List (Link L)) (s a n : ℕ) → Keeps at heads links → s < length links → get_or (owners at links) s none ≢ none → a ≡ get_or (nexts links) s none → length links ≡ n → (a < n) ⊎ (a ≡ none)
+next_seat {L} at heads links s a n h ls owned e size =
+    let same : length (nexts links) ≡ length links = length-map links (λ (l : Link L). l.next) in
+    elim (next_inside heads (nexts links) (befores links) (owners at links) (chains_of heads links) s h (omega (arith, same, ls)) owned) [
       | inl lt ↦ inl (omega (arith, lt, same, e, size))
       | inr out ↦ inr (e ∙ out)
     ]

@@ -1,5 +1,5 @@
--- How chains lie in arrays: the first seat of each literal, and for each seat the next one, the one before and the place of its literal.
-use Rattle.std.specs.Prelude.{ℕ, zero, suc, ◌≡◌, ◌+◌, ◌<◌, List, [], ◌∷◌, length, map, min, ◌*◌, Contains, slice_index_or, nat_lt, if◌then◌else◌, ◌⊎◌}
+-- How chains lie in arrays: the first seat of each literal, and for each seat the next one, the one before and its literal.
+use Rattle.std.specs.Prelude.{ℕ, zero, suc, ◌≡◌, ◌+◌, ◌<◌, List, [], ◌∷◌, length, map, min, ◌*◌, Option, None, Some, Contains, slice_index_or, nat_lt, if◌then◌else◌, ◌⊎◌}
 use Rattle.arena_core.specs.declared.links.Link.{Link}
 use Rattle.arena_core.specs.declared.links.TheConstants.{NONE}
 use Rattle.arena_core.specs.declared.seat.TheConstants.{MOST_SEATS}
@@ -35,23 +35,29 @@ pub record Holds (heads next before owner : List ℕ) (chains : List (List ℕ))
   pub chain : (p : ℕ) → p < length heads → IsChain next before owner p (slice_index_or heads p none) (slice_index_or chains p [])
   pub held : (s : ℕ) → s < length next → (slice_index_or owner s none ≡ none) ⊎ ((slice_index_or owner s none < length heads) × Contains (slice_index_or chains (slice_index_or owner s none) []) s)
 
-abbrev pub nexts : List Link → List ℕ
+-- the place of a literal, if any
+abbrev pub place_in : {L : Type 0} → (L → ℕ) → Option L → ℕ
+place_in at None = none
+place_in at (Some literal) = at literal
+
+abbrev pub nexts : {L : Type 0} → List (Link L) → List ℕ
 nexts links = map (λ l. l.next) links
 
-abbrev pub befores : List Link → List ℕ
+abbrev pub befores : {L : Type 0} → List (Link L) → List ℕ
 befores links = map (λ l. l.before) links
 
-abbrev pub owners : List Link → List ℕ
-owners links = map (λ l. l.owner) links
+-- the places of the literals of the seats
+abbrev pub owners : {L : Type 0} → (L → ℕ) → List (Link L) → List ℕ
+owners at links = map (λ l. place_in at l.owner) links
 
 -- the chains that the arrays hold
-abbrev pub chains_of : List ℕ → List Link → List (List ℕ)
+abbrev pub chains_of : {L : Type 0} → List ℕ → List (Link L) → List (List ℕ)
 chains_of heads links = walks heads (nexts links)
 
-abbrev pub Keeps : List ℕ → List Link → Type 0
-Keeps heads links = Holds heads (nexts links) (befores links) (owners links) (chains_of heads links)
+abbrev pub Keeps : {L : Type 0} → (L → ℕ) → List ℕ → List (Link L) → Type 0
+Keeps at heads links = Holds heads (nexts links) (befores links) (owners at links) (chains_of heads links)
 
 -- chains with room for the seats of so many clauses
-pub record HasRoom (heads : List ℕ) (links : List Link) (room : ℕ) : Type 0 where
-  pub keeps : Keeps heads links
+pub record HasRoom {L : Type 0} (at : L → ℕ) (heads : List ℕ) (links : List (Link L)) (room : ℕ) : Type 0 where
+  pub keeps : Keeps at heads links
   pub wide : length links ≡ min (2 * room) MOST_SEATS

@@ -7,7 +7,7 @@ use crate::links::{Link, NONE, link_in, move_in};
 use crate::lit::Lit;
 use crate::seat::{MOST_SEATS, Seat};
 use std::alloc::{AllocError, Global};
-use std::marker::{Model, PhantomData};
+use std::marker::Model;
 
 /// One list of seats for each place of a literal, linked both ways, and room for the seats of `room` clauses.
 ///
@@ -15,9 +15,8 @@ use std::marker::{Model, PhantomData};
 #[derive(Drop)]
 pub struct Chains<L: Lit> {
     heads: Vec<u32>,
-    links: Vec<Link>,
+    links: Vec<Link<L>>,
     room: u32,
-    literals: PhantomData<L>,
 }
 
 impl<L: Lit> Model for Chains<L> {
@@ -29,7 +28,7 @@ impl<L: Lit> Model for Chains<L> {
 
     ghost view = { λ a. record { chains = chains_of a.heads.items a.links.items; room = a.room } };
 
-    ghost invariant = { λ a. HasRoom a.heads.items a.links.items a.room };
+    ghost invariant = { λ a. HasRoom L.table_place a.heads.items a.links.items a.room };
 }
 
 impl<L: Lit> Chains<L> {
@@ -44,7 +43,6 @@ impl<L: Lit> Chains<L> {
             heads,
             links: Vec::new(alloc),
             room: 0,
-            literals: PhantomData,
         })
     }
 
@@ -58,7 +56,12 @@ impl<L: Lit> Chains<L> {
     {
         if clauses > self.room {
             let size = (2 * clauses as usize).min(MOST_SEATS as usize);
-            self.links.resize(size, Link::FREE)?;
+            let free = Link {
+                next: NONE,
+                before: NONE,
+                owner: None,
+            };
+            self.links.resize(size, free)?;
             self.room = clauses;
         }
         Ok(())
@@ -73,12 +76,11 @@ impl<L: Lit> Chains<L> {
         ensures chains { self.new.chains ≡ put_first self.old.chains (L.table_place literal) seat }
         ensures room { self.new.room ≡ self.old.room }
     {
-        let place = literal.place();
         link_in(
             self.heads.as_mut_slice(),
             self.links.as_mut_slice(),
             seat.slot(),
-            place,
+            literal,
         );
     }
 
@@ -90,12 +92,11 @@ impl<L: Lit> Chains<L> {
         ensures chains { self.new.chains ≡ put_first (taken_out self.old.chains seat) (L.table_place to) seat }
         ensures room { self.new.room ≡ self.old.room }
     {
-        let place = to.place();
         move_in(
             self.heads.as_mut_slice(),
             self.links.as_mut_slice(),
             seat.slot(),
-            place,
+            to,
         );
     }
 
@@ -114,13 +115,13 @@ impl<L: Lit> Chains<L> {
         }
     }
 
-    /// The place of the literal in whose chain a seat is.
+    /// The literal in whose chain a seat is.
     #[inline]
-    pub fn place_of(&self, seat: Seat) -> u32
+    pub fn literal_of(&self, seat: Seat) -> L
         requires { IsSeated self.now.chains seat }
-        ensures { Contains (chain_at self.now.chains result) seat }
+        ensures { Contains (chain_at self.now.chains (L.table_place result)) seat }
     {
-        self.links[seat.slot() as usize].owner
+        self.links[seat.slot() as usize].owner.unwrap()
     }
 
     /// The seat after a seat in its chain; None exactly when it is the last.

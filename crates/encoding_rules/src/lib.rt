@@ -7,7 +7,7 @@ ghost use Rattle.std.specs.List.{sum_by};
 ghost use Rattle.sorting_rule.specs.Preference.{Direction};
 ghost use Rattle.sorting_rule.specs.Examples.{HasNoModel};
 ghost use Rattle.sorting_rule.specs.Rebuilt.{own_sets, AreMinimal, Learns};
-ghost use Rattle.literals_core.specs.Apart.{AreApart};
+ghost use Rattle.literals_core.specs.DistinctVariables.{HasDistinctVariables};
 ghost use Rattle.literals_core.specs.Formula.{AreLiterals};
 ghost use Rattle.literals_core.specs.Values.{Satisfies, AreUnsatisfiable};
 ghost use Rattle.literals_core.specs.declared.encoding.Encoding.{Encoding};
@@ -39,7 +39,7 @@ pub fn formula_is_in_range()
 
 /// A law, whatever the encoding: the literals of each clause are of distinct variables.
 pub fn formula_is_apart()
-    ensures { (encoding : Encoding) (task : Task) → IsTask task → All AreApart (clauses_of encoding task) }
+    ensures { (encoding : Encoding) (task : Task) → IsTask task → All HasDistinctVariables (clauses_of encoding task) }
 {}
 
 /// A law, whatever the encoding: a model that restores the examples, with any upward-closed family of sets of criteria,

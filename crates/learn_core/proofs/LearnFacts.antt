@@ -1,7 +1,7 @@
 -- What a search over the formula of a task says of the task.
 use Rattle.std.proofs.Common.{◌≡◌, Bool, List, sym, subst}
 use Rattle.std.specs.List.{All}
-use Rattle.literals_core.specs.Apart.{AreApart}
+use Rattle.literals_core.specs.DistinctVariables.{HasDistinctVariables}
 use Rattle.literals_core.specs.Formula.{Cnf}
 use Rattle.literals_core.specs.Values.{Satisfies}
 use Rattle.literals_core.specs.declared.encoding.Encoding.{Encoding}
@@ -14,8 +14,8 @@ use Rattle.learn_core.specs.Satisfies.{SatisfiesOne}
 
 module _ (encoding : Encoding) (task : Task) (formula : Cnf) (is : formula ≡ formula_of encoding task) where
   -- its clauses are of distinct variables
-  pub formula_apart : IsTask task → All AreApart formula.clauses
-  formula_apart fits = subst (λ (f : Cnf). All AreApart f.clauses) (sym is) (all_apart encoding task fits)
+  pub formula_apart : IsTask task → All HasDistinctVariables formula.clauses
+  formula_apart fits = subst (λ (f : Cnf). All HasDistinctVariables f.clauses) (sym is) (all_apart encoding task fits)
 
   -- values that satisfy it satisfy the formula of this encoding
   pub satisfied : (values : List Bool) → IsModel formula values → SatisfiesOne task (value_at values)

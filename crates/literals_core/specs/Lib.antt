@@ -5,4 +5,4 @@ pub mod Formula
 pub mod Values
 pub mod Propagation
 pub mod Raised
-pub mod Apart
+pub mod DistinctVariables

@@ -10,7 +10,8 @@ use Rattle.literals_core.proofs.Members.{Contains-first}
 use Rattle.literals_core.proofs.Negation.{negation_twice, variable_of-negation, negation_differs}
 use Rattle.literals_core.proofs.Settled.{settled_by_count}
 use Rattle.watch_core.specs.Trail.{Assignment, IsTrail, places, cut}
-use Rattle.watch_core.specs.Places.{placed, HasDistinctVariables}
+use Rattle.literals_core.specs.DistinctVariables.{HasDistinctVariables}
+use Rattle.watch_core.specs.Places.{placed}
 use Rattle.watch_core.specs.Rest.{SettledBelow, AllSettled}
 use Rattle.watch_core.specs.Propagates.{AreReordered}
 use Rattle.chain_core.specs.Fresh.{HasNoPair, ShowsFresh}

@@ -13,7 +13,8 @@ use Rattle.literals_core.specs.Truth.{is_true, is_false}
 use Rattle.literals_core.proofs.Negation.{negation_twice, variable_of-negation}
 use Rattle.literals_core.proofs.Truth.{tested_true, true_tested}
 use Rattle.watch_core.specs.Trail.{Assignment, Entry, IsTrail, places, cut, waiting, assigned, undone}
-use Rattle.watch_core.specs.Places.{placed, HasDistinctVariables}
+use Rattle.literals_core.specs.DistinctVariables.{HasDistinctVariables}
+use Rattle.watch_core.specs.Places.{placed}
 use Rattle.watch_core.specs.Rest.{SettledBelow, CanPropagate, IsAtRest}
 use Rattle.watch_core.specs.Added.{CanAdd, NotAfter}
 use Rattle.watch_core.proofs.LevelLemmas.{cut_cut}

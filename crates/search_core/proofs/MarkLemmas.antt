@@ -9,7 +9,7 @@ use Rattle.literals_core.proofs.Members.{Contains-first}
 use Rattle.literals_core.proofs.Negation.{negation_twice, variable_of-negation}
 use Rattle.watch_core.specs.Trail.{Assignment, Entry, IsTrail}
 use Rattle.search_core.specs.State.{place, entry_at, no_entry, IsEntry}
-use Rattle.watch_core.specs.Places.{HasDistinctVariables}
+use Rattle.literals_core.specs.DistinctVariables.{HasDistinctVariables}
 use Rattle.search_core.specs.Analysis.{IsLower, HasMark, AreMarked, IsOpen, IsFalseOrMarked, Grows}
 use Rattle.search_core.proofs.ListLemmas.{all_map}
 use Rattle.search_core.proofs.EntryLemmas.{same_entry}

@@ -14,7 +14,7 @@ use Rattle.literals_core.proofs.Truth.{tested_true, true_tested}
 use Rattle.watch_core.specs.Trail.{Assignment, Entry, IsTrail, places}
 use Rattle.watch_core.specs.Propagates.{IsReason}
 use Rattle.chain_core.specs.Chain.{Chains, ends, adds}
-use Rattle.watch_core.specs.Places.{HasDistinctVariables}
+use Rattle.literals_core.specs.DistinctVariables.{HasDistinctVariables}
 use Rattle.search_core.specs.Analysis.{IsLower, HasMark, AreMarked, IsPoint, Show, IsExplained, IsFalseOrOpposite, Fits, Gives}
 use Rattle.search_core.specs.State.{place, entry_at, no_entry, IsEntry, AreReasoned}
 use Rattle.search_core.proofs.ListLemmas.{all_of, all_map, clause_there, known_member, member_known}

@@ -4,7 +4,7 @@ use Rattle.std.specs.List.{All, Contains, IsDistinct, slice_get}
 use Rattle.std.proofs.lemmas.Bool.{cases_Bool, cases_eq}
 use Rattle.std.proofs.lemmas.Bool.Decides.{eqb_tells, nat_tests}
 use Rattle.std.proofs.lemmas.List.{get_or_default, length-map, get_or-map, append-nil}
-use Rattle.std.proofs.lemmas.List.Elements.{All-contains, Contains-get_or, Contains-append_right, Contains-append_left}
+use Rattle.std.proofs.lemmas.List.Elements.{All-contains, All-nil, Contains-get_or, Contains-append_right, Contains-append_left}
 use Rattle.std.proofs.lemmas.List.Folds.{list_any-from_Any}
 use Rattle.literals_core.specs.Literal.{negation, variable_of}
 use Rattle.literals_core.specs.Truth.{IsTrueUnder, IsFalseUnder, is_true, is_false}
@@ -16,9 +16,9 @@ use Rattle.chain_core.specs.Fresh.{HasNoPair, LeavesOne, IsFresh}
 use Rattle.chain_core.specs.Log.{known_after, known_before}
 use Rattle.literals_core.specs.Values.{literal_true, clause_true, Satisfies}
 use Rattle.chain_core.specs.declared.log.Lemma.{Lemma}
-use Rattle.search_core.specs.Bounds.{IsGiven, by_unit, PropagationEnds, NoneSubsumed}
+use Rattle.search_core.specs.Bounds.{PropagationEnds, NoneSubsumed}
 use Rattle.search_core.proofs.ListLemmas.{all_of, map_member}
-use Rattle.chain_core.proofs.FreshLemmas.{fresh_lemma}
+use Rattle.chain_core.proofs.FreshLemmas.{fresh_lemma, given_in, no_conflict_in}
 use Rattle.literals_core.proofs.Members.{Contains-first, Contains-later}
 use Rattle.watch_core.specs.Trail.{Assignment, Entry, IsTrail, places, cut, value_of}
 use Rattle.watch_core.specs.Places.{placed}
@@ -36,38 +36,15 @@ use Rattle.search_core.specs.State.{place, entry_at, no_entry, IsSound, GoesOn, 
 use Rattle.search_core.proofs.PowerLemmas.{subsumed_few}
 use Rattle.search_core.proofs.LogLemmas.{HasLearned, none_good}
 
--- a set under which a formula's clauses are settled has all that unit propagation gives
-pub given_in : (clauses : List (List ℕ)) (set : List ℕ) (l : ℕ) → HasNoPair set → All (IsSettled set) clauses → IsGiven clauses l → Contains set l
-given_in clauses set l pair settled (by_unit {clause} in' has others) =
-    from (All-contains (IsSettled set) clauses clause settled in') (λ x hx ne. given_in clauses set (negation x) pair settled (others x hx ne)) where
-      from : IsSettled set clause → ((x : ℕ) → Contains clause x → x ≢ l → Contains set (negation x)) → Contains set l
-      from (inl (k, x, lt, is, holds)) out = elim (cases_eq x l) [
-        | inl same ↦ subst (Contains set) same holds
-        | inr other ↦ absurd (All-contains (λ l. ¬ Contains set (negation l)) set x pair holds (out x (k, lt, is) other))
-      ]
-      from (inr two) out = elim (cases_eq two.first l) [
-        | inr other ↦ absurd (two.not_false.0 (out two.first two.among.0 other))
-        | inl same ↦ (elim (cases_eq two.second l) [
-          | inr other ↦ absurd (two.not_false.1 (out two.second two.among.1 other))
-          | inl also ↦ absurd (two.differ (same ∙ sym also))
-        ])
-      ]
-
--- so it doesn't end there
+-- unit propagation from a formula alone does not end where a set settles the clauses and leaves a literal open
 pub no_end : (formula : Cnf) (literals set : List ℕ) → HasNoPair set → All (IsSettled set) formula.clauses → LeavesOne set literals → All (λ l. (2 ≤ l) × (variable_of l ≤ formula.variables)) literals → ¬ PropagationEnds formula
-no_end formula literals set pair settled one inside (inl (clause, in', all)) = from (All-contains (IsSettled set) formula.clauses clause settled in') where
-  out : (x : ℕ) → Contains clause x → Contains set (negation x)
-  out x has = given_in formula.clauses set (negation x) pair settled (All-contains (λ l. IsGiven formula.clauses (negation l)) clause x all has)
-
-  from : IsSettled set clause → ⊥
-  from (inl (k, x, lt, is, holds)) = All-contains (λ l. ¬ Contains set (negation l)) set x pair holds (out x (k, lt, is))
-  from (inr two) = two.not_false.0 (out two.first two.among.0)
+no_end formula literals set pair settled one inside (inl conflict) = no_conflict_in formula.clauses [] set pair settled (All-nil (Contains set)) conflict
 no_end formula literals set pair settled one inside (inr whole) =
     let v : ℕ = variable_of one.left in
     let at = All-contains (λ l. (2 ≤ l) × (variable_of l ≤ formula.variables)) literals one.left inside one.among in
     elim (whole v (omega (arith, at.0)) at.1) [
-      | inl plus ↦ decide (2 * v) (given_in formula.clauses set (2 * v) pair settled plus) (same_variable (2 * v) one.left (omega arith))
-      | inr minus ↦ decide (2 * v + 1) (given_in formula.clauses set (2 * v + 1) pair settled minus) (same_variable (2 * v + 1) one.left (omega arith))
+      | inl plus ↦ decide (2 * v) (given_in formula.clauses [] set (2 * v) pair settled (All-nil (Contains set)) plus) (same_variable (2 * v) one.left (omega arith))
+      | inr minus ↦ decide (2 * v + 1) (given_in formula.clauses [] set (2 * v + 1) pair settled (All-nil (Contains set)) minus) (same_variable (2 * v + 1) one.left (omega arith))
     ]
   where
     decide : (y : ℕ) → Contains set y → (y ≡ one.left) ⊎ (y ≡ negation one.left) → ⊥

@@ -8,7 +8,8 @@ use Rattle.literals_core.specs.Literal.{variable_of}
 use Rattle.literals_core.specs.Truth.{is_true, is_false}
 use Rattle.literals_core.proofs.Truth.{tested_true}
 use Rattle.watch_core.specs.Trail.{Assignment, Entry, IsTrail, places, value_of, assigned, empty_trail}
-use Rattle.watch_core.specs.Places.{placed, HasDistinctVariables}
+use Rattle.literals_core.specs.DistinctVariables.{HasDistinctVariables}
+use Rattle.watch_core.specs.Places.{placed}
 use Rattle.watch_core.specs.Rest.{IsAtRest, IsInConflict, IsClauseFalse, CanPropagate}
 use Rattle.watch_core.specs.Propagates.{Propagates, AreReordered}
 use Rattle.watch_core.specs.Added.{CanAdd}

@@ -6,7 +6,7 @@ use Rattle.watch_core.specs.Trail.{Assignment, assigned, undone}
 use Rattle.chain_core.specs.declared.log.Lemma.{Lemma}
 use Rattle.watch_core.specs.Propagates.{AreReordered}
 use Rattle.chain_core.specs.Chain.{Chains}
-use Rattle.watch_core.specs.Places.{HasDistinctVariables}
+use Rattle.literals_core.specs.DistinctVariables.{HasDistinctVariables}
 use Rattle.search_core.specs.Inner.{outer}
 use Rattle.search_core.specs.State.{entry_at, IsEntry}
 

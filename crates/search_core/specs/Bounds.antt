@@ -1,20 +1,14 @@
 -- What keeps a search from its limit: lemmas are few, and unit propagation may end it before the first one.
-use Rattle.std.specs.Prelude.{ℕ, ◌≢◌, ◌<◌, ◌≤◌, ◌⊎◌, List, length, slice_index_or, [], All, Contains}
-use Rattle.literals_core.specs.Literal.{negation}
+use Rattle.std.specs.Prelude.{ℕ, ◌<◌, ◌≤◌, ◌⊎◌, List, length, slice_index_or, [], All, Contains}
+use Rattle.literals_core.specs.Propagation.{IsGiven, MeetsConflict}
 use Rattle.literals_core.specs.Formula.{Cnf, AreLiterals, plus, minus}
 use Rattle.chain_core.specs.Fresh.{HasNoPair}
 
--- the literals that unit propagation gives from these clauses alone: the negations of a clause's other literals are given
-pub data IsGiven (clauses : List (List ℕ)) : ℕ → Type 0 where
-  by_unit :
-      {clause : List ℕ} {l : ℕ} → Contains clauses clause → Contains clause l
-      → ((x : ℕ) → Contains clause x → x ≢ l → IsGiven clauses (negation x)) → IsGiven clauses l
-
--- it meets a false clause, or it assigns every variable
+-- from the clauses alone, unit propagation meets a conflict or assigns every variable
 abbrev pub PropagationEnds : Cnf → Type 0
 PropagationEnds formula =
-    ((clause : List ℕ) × Contains formula.clauses clause × All (λ l. IsGiven formula.clauses (negation l)) clause)
-    ⊎ ((v : ℕ) → 1 ≤ v → v ≤ formula.variables → IsGiven formula.clauses (plus v) ⊎ IsGiven formula.clauses (minus v))
+    MeetsConflict formula.clauses []
+    ⊎ ((v : ℕ) → 1 ≤ v → v ≤ formula.variables → IsGiven formula.clauses [] (plus v) ⊎ IsGiven formula.clauses [] (minus v))
 
 -- a clause is subsumed by another one if it has all literals of that one
 abbrev pub IsSubsumedBy : List ℕ → List ℕ → Type 0

@@ -1,10 +1,11 @@
 //! Laws on lists of clauses and on lemmas, each on a function that does nothing.
 ghost use Rattle.std.specs.Prelude.{ℕ, ◌≡◌, ◌≢◌, ◌<◌, ◌≤◌, ◌^◌, List, [], ◌∷◌, length, map, All, Contains};
 ghost use Rattle.literals_core.specs.Formula.{Cnf, AreLiterals};
+ghost use Rattle.literals_core.specs.Propagation.{IsGiven};
 ghost use Rattle.literals_core.specs.Settled.{IsSettled};
 ghost use Rattle.chain_core.specs.Fresh.{HasNoPair, ShowsFresh, IsFresh};
 ghost use Rattle.chain_core.specs.declared.log.Lemma.{Lemma};
-ghost use Rattle.search_core.specs.Bounds.{IsGiven, PropagationEnds, NoneSubsumed};
+ghost use Rattle.search_core.specs.Bounds.{PropagationEnds, NoneSubsumed};
 ghost use Rattle.search_core.specs.declared.outcome.TheConstants.{MOST_LEMMAS};
 
 /// Clauses of which none is subsumed by an earlier one are few.
@@ -25,7 +26,7 @@ pub fn clauses_not_subsumed_by_earlier_ones_are_few()
 /// A set under which unit propagation has nothing to say has every literal that it gives from the clauses alone.
 pub fn no_lemma_is_fresh_where_unit_propagation_ends()
     ensures given { (clauses : List (List ℕ)) (set : List ℕ) (l : ℕ) → HasNoPair set → All (IsSettled set) clauses
-        → IsGiven clauses l → Contains set l }
+        → IsGiven clauses [] l → Contains set l }
     ensures none { (formula : Cnf) (literals set : List ℕ) → AreLiterals formula.variables (literals ∷ [])
         → ShowsFresh formula.clauses literals set → ¬ PropagationEnds formula }
 {}

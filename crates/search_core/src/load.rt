@@ -1,7 +1,7 @@
 //! The clauses of a formula go into the search.
 ghost use Rattle.std.specs.Prelude.{◌≡◌, [], map, All, OnOk};
 ghost use Rattle.watch_core.specs.Trail.{empty_trail};
-ghost use Rattle.watch_core.specs.Places.{HasDistinctVariables};
+ghost use Rattle.literals_core.specs.DistinctVariables.{HasDistinctVariables};
 ghost use Rattle.search_core.specs.Inner.{outer, outer_clauses};
 
 use crate::inner_literal::InnerLiteral;

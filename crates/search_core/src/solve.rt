@@ -3,7 +3,8 @@ ghost use Rattle.std.specs.Prelude.{ℕ, List, ◌≡◌, ◌==◌, ◌+◌, ◌
 ghost use Rattle.std.specs.List.{IsDistinct};
 ghost use Rattle.arena_core.specs.declared.lit.TheConstants.{MOST_VARIABLES};
 ghost use Rattle.literals_core.specs.Truth.{is_true};
-ghost use Rattle.watch_core.specs.Places.{placed, HasDistinctVariables};
+ghost use Rattle.literals_core.specs.DistinctVariables.{HasDistinctVariables};
+ghost use Rattle.watch_core.specs.Places.{placed};
 ghost use Rattle.watch_core.specs.Rest.{CanPropagate, IsClauseFalse};
 ghost use Rattle.watch_core.specs.Trail.{IsTrail, places};
 ghost use Rattle.search_core.specs.Analysis.{HasCurrent, IsExplained};

@@ -11,7 +11,7 @@ use Rattle.std.proofs.lemmas.Bool.Decides.{eqb_tells, leb_tells}
 use Rattle.arena_core.specs.Chains.{put_first, taken_out}
 use Rattle.literals_core.specs.Literal.{variable_of, negation}
 use Rattle.literals_core.specs.Truth.{is_true, is_false}
-use Rattle.watch_core.specs.Places.{HasDistinctVariables}
+use Rattle.literals_core.specs.DistinctVariables.{HasDistinctVariables}
 use Rattle.watch_core.specs.Trail.{Entry, Assignment, IsTrail, places, cut, waiting, entered, assigned, one_taken}
 use Rattle.watch_core.specs.Rest.{SettledBelow, IsAtRest}
 use Rattle.watch_core.specs.Cover.{clause_of, watched_at, HasTrue, AllCovered, IsCovered, IsPropagating}

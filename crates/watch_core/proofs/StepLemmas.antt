@@ -54,10 +54,10 @@ all_false set [] h = refl
 all_false set (x ∷ xs) h = ap (λ b. b && list_all (is_false set) xs) (h 0 (omega arith)) ∙ all_false set xs (λ i lt. h (suc i) (omega (arith, lt)))
 
 -- each literal but the one beside is false, where no open place is left
-pub others_false : {L : Type 0} (at : L → ℕ) (set xs : List ℕ) (clause : List L) (s side : ℕ) (d : L) → xs ≡ map at clause → side ≡ s % 2 → is_false set (get_or xs side 0) ≡ true → ((j : ℕ) (l : L) → 2 ≤ j → j < length clause → is_false set (at (get_or clause j l)) ≡ true)
-    → (i : ℕ) → i < length xs → i ≢ 1 - side → is_false set (get_or xs i 0) ≡ true
-others_false at set xs clause s side d e es f rest i lt ne = elim (cases_lt i 2) [
-  | inl low ↦ (let same : i ≡ side = omega (arith, low, ne, es) in ap (λ k. is_false set (get_or xs k 0)) same ∙ f)
+pub others_false : {L : Type 0} (at : L → ℕ) (set xs : List ℕ) (clause : List L) (s : ℕ) (d : L) → xs ≡ map at clause → is_false set (get_or xs (s % 2) 0) ≡ true → ((j : ℕ) (l : L) → 2 ≤ j → j < length clause → is_false set (at (get_or clause j l)) ≡ true)
+    → (i : ℕ) → i < length xs → i ≢ 1 - s % 2 → is_false set (get_or xs i 0) ≡ true
+others_false at set xs clause s d e f rest i lt ne = elim (cases_lt i 2) [
+  | inl low ↦ (let same : i ≡ s % 2 = omega (arith, low, ne) in ap (λ k. is_false set (get_or xs k 0)) same ∙ f)
   | inr high ↦ (let n = row_long at xs clause e in
       ap (is_false set) (ap (λ (ys : List ℕ). get_or ys i 0) e ∙ get_or-map at clause i d 0 (omega (arith, lt, n))) ∙ rest i d high (omega (arith, lt, n)))
 ]

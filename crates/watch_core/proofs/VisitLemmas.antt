@@ -27,16 +27,6 @@ use Rattle.watch_core.proofs.StepLemmas.{row_is, row_at, row_long, placed_swap, 
 has_at : (xs : List ℕ) (k x : ℕ) → k < length xs → get_or xs k 0 ≡ x → Contains xs x
 has_at xs k x lt e = (let P : ℕ → Type 0 = λ y. Contains xs y in subst P e (Contains-get_or xs k 0 lt))
 
-pub visit_other : {L : Type 0} (at : L → ℕ) (cs : List (List L)) (s id side : ℕ) (clause : List L) (other : L) → id ≡ s / 2 → side ≡ s % 2 → clause ≡ get_or cs id [] → IsSeat (placed at cs) s → other ≡ get_or clause (1 - side) other
-    → (beside (placed at cs) s ≡ at other) × Contains (clause_of (placed at cs) s) (at other)
-visit_other at cs s id side clause other ei es ec seat read =
-    let xs : List ℕ = clause_of (placed at cs) s in
-    let row = row_is at cs (s / 2) id clause ei ec in
-    let n = row_long at xs clause row in
-    let lt : 1 - side < length clause = omega (arith, seat.long, n) in
-    let here : get_or xs (1 - side) 0 ≡ at other = row_at at xs clause (1 - side) other row lt read in
-    (ap (λ k. get_or xs (1 - k) 0) (sym es) ∙ here, has_at xs (1 - side) (at other) (omega (arith, lt, n)) here)
-
 -- the other seat of a clause: it is in a chain, that of the literal beside
 half_of_other : (s o : ℕ) → o ≡ 2 * (s / 2) + (1 - s % 2) → (o / 2 ≡ s / 2) × (o % 2 ≡ 1 - s % 2)
 half_of_other s o e = (omega (arith, e), omega (arith, e))
@@ -47,19 +37,19 @@ other_seated clauses chains s o w seat e =
     let row = ap (λ i. length (get_or clauses i [])) half in
     (watched_at clauses o, w.watched (watched_at clauses o) o (record { known = omega (arith, half, seat.known); long = omega (arith, row, seat.long); at = refl }))
 
-pub beside_is : (clauses chains : List (List ℕ)) (s o p : ℕ) → Watches clauses chains → o ≡ 2 * (s / 2) + (1 - s % 2) → Contains (chain_at chains p) o → p ≡ beside clauses s
-beside_is clauses chains s o p w e has =
+-- what stands beside the literal that a seat watches
+pub record IsBeside (clauses : List (List ℕ)) (variables s p : ℕ) : Type 0 where
+  pub is : p ≡ beside clauses s
+  pub has : Contains (clause_of clauses s) p
+  pub inside : p < 2 * variables
+
+pub other_beside : {L : Type 0} (at : L → ℕ) (clauses chains : List (List ℕ)) (t : Assignment L) (s o p : ℕ) → IsPropagating at clauses chains t → IsSeat clauses s → o ≡ 2 * (s / 2) + (1 - s % 2) → Contains (chain_at chains p) o → IsBeside clauses t.variables s p
+other_beside at clauses chains t s o p h seat e chained =
     let half = half_of_other s o e in
-    let is = w.seats p o has in
-    sym is.at ∙ ap (λ i. get_or (get_or clauses i []) (o % 2) 0) half.0 ∙ ap (λ k. get_or (clause_of clauses s) k 0) half.1
-
-pub beside_in : (clauses : List (List ℕ)) (s p : ℕ) → IsSeat clauses s → p ≡ beside clauses s → Contains (clause_of clauses s) p
-beside_in clauses s p seat e = has_at (clause_of clauses s) (1 - s % 2) p (omega (arith, seat.long)) (sym e)
-
--- the literal beside is the other one of the clause
-pub other_value : {L : Type 0} (at : L → ℕ) (cs : List (List L)) (set : List ℕ) (s id side p : ℕ) (clause : List L) (other : L) (b : Bool) → p ≡ beside (placed at cs) s → id ≡ s / 2 → side ≡ s % 2 → clause ≡ get_or cs id [] → IsSeat (placed at cs) s → other ≡ get_or clause (1 - side) other → is_true set p ≡ b → is_true set (at other) ≡ b
-other_value at cs set' s id side p clause other b e ei es ec seat read known =
-    ap (is_true set') (sym (visit_other at cs s id side clause other ei es ec seat read).0 ∙ sym e) ∙ known
+    let watched = h.covers.watches.seats p o chained in
+    let is : p ≡ beside clauses s = sym watched.at ∙ ap (λ i. get_or (get_or clauses i []) (o % 2) 0) half.0 ∙ ap (λ k. get_or (clause_of clauses s) k 0) half.1 in
+    let has = has_at (clause_of clauses s) (1 - s % 2) p (omega (arith, seat.long)) (sym is) in
+    record { is = is; has = has; inside = h.covers.inside (s / 2) p has }
 
 pub visit_inside : {L : Type 0} (at : L → ℕ) (cs : List (List L)) (chains : List (List ℕ)) (t : Assignment L) (s id : ℕ) (clause : List L) → IsPropagating at (placed at cs) chains t → id ≡ s / 2 → clause ≡ get_or cs id []
     → All (λ l. at l < 2 * t.variables) clause
@@ -100,33 +90,31 @@ visit_place at cs chains t s id j clause to h ei ec lj read =
     (let a = visit_inside at cs chains t s id clause h ei ec j to lj in let b = ap at read in omega (arith, a, b, h.covers.size))
 
 -- all but the other watched literal are false
-visit_rest : {L : Type 0} (at : L → ℕ) (cs : List (List L)) (chains : List (List ℕ)) (t : Assignment L) (s id side : ℕ) (clause : List L) (other : L) → IsSeat (placed at cs) s → is_false (places at (waiting t)) (watched_at (placed at cs) s) ≡ true
-    → id ≡ s / 2 → side ≡ s % 2 → clause ≡ get_or cs id [] → ((j : ℕ) (l : L) → 2 ≤ j → j < length clause → is_false (places at t.entries) (at (get_or clause j l)) ≡ true)
-    → (i : ℕ) → i < length (clause_of (placed at cs) s) → i ≢ 1 - side → is_false (places at t.entries) (get_or (clause_of (placed at cs) s) i 0) ≡ true
-visit_rest at cs chains t s id side clause other seat waits ei es ec rest =
+visit_rest : {L : Type 0} (at : L → ℕ) (cs : List (List L)) (t : Assignment L) (s id : ℕ) (clause : List L) (other : L) → is_false (places at (waiting t)) (watched_at (placed at cs) s) ≡ true
+    → id ≡ s / 2 → clause ≡ get_or cs id [] → ((j : ℕ) (l : L) → 2 ≤ j → j < length clause → is_false (places at t.entries) (at (get_or clause j l)) ≡ true)
+    → (i : ℕ) → i < length (clause_of (placed at cs) s) → i ≢ 1 - s % 2 → is_false (places at t.entries) (get_or (clause_of (placed at cs) s) i 0) ≡ true
+visit_rest at cs t s id clause other waits ei ec rest =
     let C : List (List ℕ) = placed at cs in
     let isfalse : is_false (places at t.entries) (watched_at C s) ≡ true = waits_true at t (negation (watched_at C s)) waits in
-    others_false at (places at t.entries) (clause_of C s) clause s side other (row_is at cs (s / 2) id clause ei ec) es (ap (λ k. is_false (places at t.entries) (get_or (clause_of C s) k 0)) es ∙ isfalse) rest
+    others_false at (places at t.entries) (clause_of C s) clause s other (row_is at cs (s / 2) id clause ei ec) isfalse rest
 
-pub visit_false : {L : Type 0} (at : L → ℕ) (cs : List (List L)) (chains : List (List ℕ)) (t : Assignment L) (s id side : ℕ) (clause : List L) (other : L) → IsSeat (placed at cs) s → is_false (places at (waiting t)) (watched_at (placed at cs) s) ≡ true
-    → id ≡ s / 2 → side ≡ s % 2 → clause ≡ get_or cs id [] → ((j : ℕ) (l : L) → 2 ≤ j → j < length clause → is_false (places at t.entries) (at (get_or clause j l)) ≡ true) → other ≡ get_or clause (1 - side) other → is_false (places at t.entries) (at other) ≡ true
+pub visit_false : {L : Type 0} (at : L → ℕ) (cs : List (List L)) (t : Assignment L) (s id : ℕ) (clause : List L) (other : L) → is_false (places at (waiting t)) (watched_at (placed at cs) s) ≡ true
+    → id ≡ s / 2 → clause ≡ get_or cs id [] → ((j : ℕ) (l : L) → 2 ≤ j → j < length clause → is_false (places at t.entries) (at (get_or clause j l)) ≡ true) → at other ≡ beside (placed at cs) s → is_false (places at t.entries) (at other) ≡ true
     → IsClauseFalse (places at t.entries) (clause_of (placed at cs) s)
-visit_false at cs chains t s id side clause other seat waits ei es ec rest read isfalse =
+visit_false at cs t s id clause other waits ei ec rest o isfalse =
     let xs : List ℕ = clause_of (placed at cs) s in
-    let o = (visit_other at cs s id side clause other ei es ec seat read).0 in
-    all_false (places at t.entries) xs (λ i lt. elim (cases_eq i (1 - side)) [
-      | inl same ↦ ap (λ k. is_false (places at t.entries) (get_or xs k 0)) same ∙ ap (λ k. is_false (places at t.entries) (get_or xs (1 - k) 0)) es ∙ ap (is_false (places at t.entries)) o ∙ isfalse
-      | inr ne ↦ visit_rest at cs chains t s id side clause other seat waits ei es ec rest i lt ne
+    all_false (places at t.entries) xs (λ i lt. elim (cases_eq i (1 - s % 2)) [
+      | inl same ↦ ap (λ k. is_false (places at t.entries) (get_or xs k 0)) same ∙ ap (is_false (places at t.entries)) (sym o) ∙ isfalse
+      | inr ne ↦ visit_rest at cs t s id clause other waits ei ec rest i lt ne
     ])
 
-pub visit_assigned : {L : Type 0} (at : L → ℕ) (cs : List (List L)) (chains : List (List ℕ)) (t t' : Assignment L) (s id side : ℕ) (clause : List L) (other : L) → IsPropagating at (placed at cs) chains t → IsSeat (placed at cs) s → is_false (places at (waiting t)) (watched_at (placed at cs) s) ≡ true
-    → id ≡ s / 2 → side ≡ s % 2 → clause ≡ get_or cs id [] → ((j : ℕ) (l : L) → 2 ≤ j → j < length clause → is_false (places at t.entries) (at (get_or clause j l)) ≡ true) → other ≡ get_or clause (1 - side) other → is_true (places at t.entries) (at other) ≡ false
+pub visit_assigned : {L : Type 0} (at : L → ℕ) (cs : List (List L)) (chains : List (List ℕ)) (t t' : Assignment L) (s id : ℕ) (clause : List L) (other : L) → IsPropagating at (placed at cs) chains t → IsSeat (placed at cs) s → is_false (places at (waiting t)) (watched_at (placed at cs) s) ≡ true
+    → id ≡ s / 2 → clause ≡ get_or cs id [] → ((j : ℕ) (l : L) → 2 ≤ j → j < length clause → is_false (places at t.entries) (at (get_or clause j l)) ≡ true) → IsBeside (placed at cs) t.variables s (at other) → is_true (places at t.entries) (at other) ≡ false
     → t' ≡ assigned t other (Some id) → IsTrail at t'
     → IsPropagating at (placed at cs) chains t' × Propagates at (placed at cs) t (placed at cs) t' × HasTrue (places at t'.entries) (clause_of (placed at cs) s)
-visit_assigned {L} at cs chains t t' s id side clause other h seat waits ei es ec rest read free et trail =
+visit_assigned {L} at cs chains t t' s id clause other h seat waits ei ec rest o free et trail =
     let C : List (List ℕ) = placed at cs in
     let xs : List ℕ = clause_of C s in
-    let o = visit_other at cs s id side clause other ei es ec seat read in
     let is : t' ≡ assigned t other (Some (s / 2)) = et ∙ ap (λ i. assigned t other (Some i)) ei in
     let P : Assignment L → Type 0 = λ u. IsPropagating at C chains u in
     let Q : Assignment L → Type 0 = λ u. Propagates at C t C u in
@@ -134,9 +122,9 @@ visit_assigned {L} at cs chains t t' s id side clause other h seat waits ei es e
     let T : Assignment L → Type 0 = λ u. IsTrail at u in
     let grown : places at (t.entries ++ record { literal = other; level = t.level; reason = Some (s / 2) } ∷ []) ≡ places at t.entries ++ at other ∷ [] = map-append (λ (e : Entry L). at e.literal) t.entries (record { literal = other; level = t.level; reason = Some (s / 2) } ∷ []) in (
       subst P (sym is) (going_assigned at C chains t other (Some (s / 2)) h (subst T is trail) free),
-      subst Q (sym is) (goes_assigned at C t other (s / 2) seat.known o.1 (λ x m ne. (let e : get_or xs m.0 0 ≡ x = get_or_default xs m.0 0 x m.1 ∙ m.2 in
-          ap (is_false (places at t.entries)) (sym e) ∙ visit_rest at cs chains t s id side clause other seat waits ei es ec rest m.0 m.1 (λ same. ne (sym e ∙ ap (λ k. get_or xs k 0) same ∙ ap (λ k. get_or xs (1 - k) 0) es ∙ o.0))))),
-      subst R (sym is) (at other, o.1, ap (λ (ys : List ℕ). is_true ys (at other)) grown ∙ now_true (places at t.entries) (at other)),
+      subst Q (sym is) (goes_assigned at C t other (s / 2) seat.known o.has (λ x m ne. (let e : get_or xs m.0 0 ≡ x = get_or_default xs m.0 0 x m.1 ∙ m.2 in
+          ap (is_false (places at t.entries)) (sym e) ∙ visit_rest at cs t s id clause other waits ei ec rest m.0 m.1 (λ same. ne (sym e ∙ ap (λ k. get_or xs k 0) same ∙ sym o.is))))),
+      subst R (sym is) (at other, o.has, ap (λ (ys : List ℕ). is_true ys (at other)) grown ∙ now_true (places at t.entries) (at other)),
     )
 
 -- what is true stays true

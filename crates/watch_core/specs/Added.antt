@@ -3,7 +3,7 @@ use Rattle.std.specs.Prelude.{ℕ, ◌≡◌, ◌+◌, ◌*◌, ◌<◌, ◌≤�
 use Rattle.arena_core.specs.Chains.{put_first}
 use Rattle.literals_core.specs.Literal.{negation}
 use Rattle.literals_core.specs.Truth.{is_true, is_false, open_literals}
-use Rattle.watch_core.specs.Places.{HasDistinctVariables}
+use Rattle.literals_core.specs.DistinctVariables.{HasDistinctVariables}
 use Rattle.watch_core.specs.Trail.{Assignment, Entry, places}
 use Rattle.watch_core.specs.declared.added.Standing.{Standing}
 use Rattle.watch_core.specs.declared.added.Standing.TheVariants.{Free, Unit, False}

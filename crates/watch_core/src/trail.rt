@@ -176,16 +176,6 @@ impl<L: Lit> Trail<L> {
         value == TRUE
     }
 
-    /// Whether the literal at a place is true.
-    #[inline]
-    pub(crate) fn is_true_at(&self, place: u32) -> bool
-        requires { place < 2 * self.now.variables }
-        ensures { result ≡ is_true (places L.table_place self.now.entries) place }
-    {
-        let value = self.values[place as usize];
-        value == TRUE
-    }
-
     /// Whether a literal is false.
     #[inline]
     pub fn is_false(&self, literal: L) -> bool

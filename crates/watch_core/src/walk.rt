@@ -27,7 +27,7 @@ pub enum Visit {
 
 /// Visits one seat of a literal that became false, at the price of one look at most.
 ///
-/// If the other watched literal is true, its place, which the chains know, is enough.
+/// The chains know the other watched literal. If it is true, that is enough; and no literal of a clause of two is read.
 fn visit_seat<L: Lit, S: Ledger>(
     arena: &mut Arena<L>,
     chains: &mut Chains<L>,
@@ -45,17 +45,15 @@ fn visit_seat<L: Lit, S: Ledger>(
     ensures look { looks.new ≤ looks.old + 1 }
     ensures outcome { Visited L.table_place (placed L.table_place arena.old) chains.old.chains trail.old (placed L.table_place arena.new) chains.new.chains trail.new seat result }
 {
-    let beside = chains.place_of(seat.other());
-    if trail.is_true_at(beside) {
+    let other = chains.literal_of(seat.other());
+    if trail.is_true(other) {
         return Visit::Stays;
     }
     let id = seat.clause();
-    let side = seat.side();
     let clause = arena.literals(id, looks);
-    let other = clause[1 - side as usize];
     if let Some(j) = open_place(trail, clause) {
         let to = clause[j];
-        arena.swap(id, side as u32, j as u32);
+        arena.swap(id, seat.side() as u32, j as u32);
         chains.move_seat(seat, to);
         return Visit::Moved;
     }

@@ -3,7 +3,8 @@ ghost use Rattle.std.specs.Prelude.{ℕ, Contains, ◌≡◌, ◌==◌, ◌+◌,
 ghost use Rattle.std.specs.List.{IsDistinct};
 ghost use Rattle.arena_core.specs.declared.arena.TheConstants.{MOST_CLAUSES};
 ghost use Rattle.arena_core.specs.declared.lit.TheConstants.{MOST_VARIABLES};
-ghost use Rattle.watch_core.specs.Places.{placed, HasDistinctVariables};
+ghost use Rattle.literals_core.specs.DistinctVariables.{HasDistinctVariables};
+ghost use Rattle.watch_core.specs.Places.{placed};
 ghost use Rattle.watch_core.specs.Trail.{IsTrail, places, waiting, value_of, assigned, decided, undone, empty_trail};
 ghost use Rattle.watch_core.specs.Rest.{CanPropagate, Outcome};
 ghost use Rattle.watch_core.specs.Propagates.{Propagates, AreReordered};

@@ -3,7 +3,7 @@ ghost use Rattle.std.specs.Prelude.{◌≡◌, ◌≤◌, All, OnOk, nat_lt};
 ghost use Rattle.std.specs.Bool.{OnTrue, OnFalse};
 ghost use Rattle.std.specs.List.{list_any};
 ghost use Rattle.literals_core.specs.Literal.{variable_of};
-ghost use Rattle.watch_core.specs.Places.{HasDistinctVariables};
+ghost use Rattle.literals_core.specs.DistinctVariables.{HasDistinctVariables};
 
 use chain_core::{Formula, Literal, MOST_CLAUSES};
 use std::test::Fail;

@@ -1,6 +1,6 @@
 //! A long chain of implications whose clauses come in a scattered order.
 ghost use Rattle.std.specs.Prelude.{◌≤◌, All, IfOk};
-ghost use Rattle.watch_core.specs.Places.{HasDistinctVariables};
+ghost use Rattle.literals_core.specs.DistinctVariables.{HasDistinctVariables};
 
 use crate::clauses::{add, add_two};
 use chain_core::{Formula, Literal};

@@ -1,6 +1,6 @@
 //! Pigeons in holes, of which there is one less: no values give each pigeon a hole of its own (Haken 1985).
 ghost use Rattle.std.specs.Prelude.{◌≤◌, ◌<◌, All, IfOk, OnOk};
-ghost use Rattle.watch_core.specs.Places.{HasDistinctVariables};
+ghost use Rattle.literals_core.specs.DistinctVariables.{HasDistinctVariables};
 
 use crate::clauses::{add, add_two};
 use chain_core::{Formula, Literal};

@@ -1,5 +1,5 @@
 use Rattle.std.specs.List.{All}
-use Rattle.watch_core.specs.Places.{HasDistinctVariables}
+use Rattle.literals_core.specs.DistinctVariables.{HasDistinctVariables}
 use Rattle.worked_search.proofs.pigeons.add_apart.Given as goal
 
 abbrev pub invariant-loop-first : goal.invariant-loop-first

@@ -1,5 +1,5 @@
 use Rattle.std.specs.List.{All}
-use Rattle.watch_core.specs.Places.{HasDistinctVariables}
+use Rattle.literals_core.specs.DistinctVariables.{HasDistinctVariables}
 use Rattle.worked_search.proofs.pigeons.five_in_four.Given as goal
 
 abbrev pub invariant-loop-numbers : goal.invariant-loop-numbers

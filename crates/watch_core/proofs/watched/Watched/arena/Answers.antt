@@ -1,6 +1,7 @@
 use Rattle.std.proofs.Common.{ℕ, ◌*◌, ◌<◌, ◌==◌, [], get_or, subst}
 use Rattle.std.specs.List.{Contains, IsDistinct}
-use Rattle.watch_core.specs.Places.{placed, HasDistinctVariables}
+use Rattle.literals_core.specs.DistinctVariables.{HasDistinctVariables}
+use Rattle.watch_core.specs.Places.{placed}
 use Rattle.watch_core.specs.Watched.{Clauses}
 use Rattle.watch_core.proofs.GoingLemmas.{distinct_literals, variables_apart}
 use Rattle.watch_core.proofs.watched.Watched.arena.Goals as goal
