@@ -1,4 +1,4 @@
--- Chains of seats: one list of seats for each place of a literal. A seat is twice the number of its clause, plus its side.
+-- Chains of seats: a list of seats for each place of a literal. A seat is twice its clause's number, plus its side.
 use Rattle.std.specs.Prelude.{ℕ, ◌≡◌, ◌+◌, ◌<◌, length, ◌==◌, not, List, ◌∷◌, [], Option, filter, map, slice_get, slice_index_or, slice_set, Contains}
 
 -- the chains, and for how many clauses there is room
@@ -28,8 +28,10 @@ IsSeated chains seat = (place : ℕ) × Contains (chain_at chains place) seat
 
 -- each seat stands once, in one chain
 abbrev pub AreApart : List (List ℕ) → Type 0
-AreApart chains = (p i q j : ℕ) → i < length (chain_at chains p) → j < length (chain_at chains q) → slice_index_or (chain_at chains p) i 0 ≡ slice_index_or (chain_at chains q) j 0 → (p ≡ q) × (i ≡ j)
+AreApart chains = (p i q j : ℕ) → i < length (chain_at chains p) → j < length (chain_at chains q)
+    → slice_index_or (chain_at chains p) i 0 ≡ slice_index_or (chain_at chains q) j 0 → (p ≡ q) × (i ≡ j)
 
 -- the seat after a seat in its chain, if any
 abbrev pub IsNext : List (List ℕ) → ℕ → Option ℕ → Type 0
-IsNext chains seat next = (place i : ℕ) → i < length (chain_at chains place) → slice_index_or (chain_at chains place) i 0 ≡ seat → next ≡ slice_get (chain_at chains place) (i + 1)
+IsNext chains seat next = (place i : ℕ) → i < length (chain_at chains place)
+    → slice_index_or (chain_at chains place) i 0 ≡ seat → next ≡ slice_get (chain_at chains place) (i + 1)

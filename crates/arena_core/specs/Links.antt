@@ -1,4 +1,4 @@
--- How chains lie in arrays: the first seat of each literal, and for each seat the next one, the one before and its literal.
+-- How chains lie in arrays: the first seat of each literal, and for each seat the next, the one before, its literal.
 use Rattle.std.specs.Prelude.{ℕ, zero, suc, ◌≡◌, ◌+◌, ◌<◌, List, [], ◌∷◌, length, map, min, ◌*◌, Option, None, Some, Contains, slice_index_or, nat_lt, if◌then◌else◌, ◌⊎◌}
 use Rattle.arena_core.specs.declared.links.Link.{Link}
 use Rattle.arena_core.specs.declared.links.TheConstants.{NONE}
@@ -11,7 +11,8 @@ none = NONE
 -- the seats from one on, at most so many
 abbrev pub walk : ℕ → List ℕ → ℕ → List ℕ
 walk zero next seat = []
-walk (suc fuel) next seat = if nat_lt seat (length next) then seat ∷ walk fuel next (slice_index_or next seat none) else []
+walk (suc fuel) next seat = if nat_lt seat (length next) then seat ∷ walk fuel next
+    (slice_index_or next seat none) else []
 
 abbrev pub walks : List ℕ → List ℕ → List (List ℕ)
 walks heads next = map (λ h. walk (length next) next h) heads
@@ -21,9 +22,11 @@ pub record IsChain (next before owner : List ℕ) (place head : ℕ) (chain : Li
   pub inside : (i : ℕ) → i < length chain → slice_index_or chain i none < length next
   pub owned : (i : ℕ) → i < length chain → slice_index_or owner (slice_index_or chain i none) none ≡ place
   pub first : head ≡ slice_index_or chain 0 none
-  pub forward : (i : ℕ) → i < length chain → slice_index_or next (slice_index_or chain i none) none ≡ slice_index_or chain (i + 1) none
+  pub forward : (i : ℕ) → i < length chain
+      → slice_index_or next (slice_index_or chain i none) none ≡ slice_index_or chain (i + 1) none
   pub start : 0 < length chain → slice_index_or before (slice_index_or chain 0 none) none ≡ none
-  pub back : (i : ℕ) → i + 1 < length chain → slice_index_or before (slice_index_or chain (i + 1) none) none ≡ slice_index_or chain i none
+  pub back : (i : ℕ) → i + 1 < length chain
+      → slice_index_or before (slice_index_or chain (i + 1) none) none ≡ slice_index_or chain i none
 
 -- the arrays hold these chains
 pub record Holds (heads next before owner : List ℕ) (chains : List (List ℕ)) : Type 0 where
@@ -32,8 +35,12 @@ pub record Holds (heads next before owner : List ℕ) (chains : List (List ℕ))
   pub few_seats : length next < none
   pub few_places : length heads < none
   pub count : length chains ≡ length heads
-  pub chain : (p : ℕ) → p < length heads → IsChain next before owner p (slice_index_or heads p none) (slice_index_or chains p [])
-  pub held : (s : ℕ) → s < length next → (slice_index_or owner s none ≡ none) ⊎ ((slice_index_or owner s none < length heads) × Contains (slice_index_or chains (slice_index_or owner s none) []) s)
+  pub chain : (p : ℕ) → p < length heads
+      → IsChain next before owner p (slice_index_or heads p none) (slice_index_or chains p [])
+  pub held : (s : ℕ) → s < length next
+      → (slice_index_or owner s none ≡ none)
+      ⊎ ((slice_index_or owner s none < length heads)
+      × Contains (slice_index_or chains (slice_index_or owner s none) []) s)
 
 -- the place of a literal, if any
 abbrev pub place_in : {L : Type 0} → (L → ℕ) → Option L → ℕ

@@ -48,7 +48,8 @@ fn set_owner<L: Lit>(links: &mut [Link<L>], i: usize, value: Option<L>)
     requires { i < length links.old }
     ensures next { nexts links.new ≡ nexts links.old }
     ensures before { befores links.new ≡ befores links.old }
-    ensures owner { owners L.table_place links.new ≡ slice_set (owners L.table_place links.old) i (place_in L.table_place value) }
+    ensures owner { owners L.table_place links.new
+        ≡ slice_set (owners L.table_place links.old) i (place_in L.table_place value) }
 {
     let link = &mut links[i];
     link.owner = value;
@@ -73,7 +74,8 @@ pub(crate) fn link_in<L: Lit>(heads: &mut [u32], links: &mut [Link<L>], seat: u3
     requires seat { seat < length links.old }
     requires free { slice_index_or (owners L.table_place links.old) seat none ≡ none }
     ensures held { Keeps L.table_place heads.new links.new }
-    ensures chains { chains_of heads.new links.new ≡ put_first (chains_of heads.old links.old) (L.table_place literal) seat }
+    ensures chains { chains_of heads.new links.new
+        ≡ put_first (chains_of heads.old links.old) (L.table_place literal) seat }
 {
     let s = seat as usize;
     let place = literal.place() as usize;
@@ -152,7 +154,8 @@ pub(crate) fn move_in<L: Lit>(heads: &mut [u32], links: &mut [Link<L>], seat: u3
     requires place { L.table_place literal < length heads.old }
     requires seated { IsSeated (chains_of heads.old links.old) seat }
     ensures held { Keeps L.table_place heads.new links.new }
-    ensures chains { chains_of heads.new links.new ≡ put_first (taken_out (chains_of heads.old links.old) seat) (L.table_place literal) seat }
+    ensures chains { chains_of heads.new links.new
+        ≡ put_first (taken_out (chains_of heads.old links.old) seat) (L.table_place literal) seat }
     ensures apart { AreApart (chains_of heads.new links.new) }
 {
     unlink_from(heads, links, seat);

@@ -35,7 +35,8 @@ pub trait Lit: Copy + Eq {
 
     ghost same_variable: { (l : Self) → variable_number (opposite l) ≡ variable_number l };
 
-    ghost two_places: { (l : Self) → (table_place l ≡ 2 * variable_number l) ⊎ (table_place l ≡ 2 * variable_number l + 1) };
+    ghost two_places: { (l : Self)
+        → (table_place l ≡ 2 * variable_number l) ⊎ (table_place l ≡ 2 * variable_number l + 1) };
 
     ghost by_place: { (l m : Self) → table_place l ≡ table_place m → l ≡ m };
 }

@@ -55,7 +55,8 @@ pub fn ranked_grades(
     i: u32,
 ) -> Result<Vec<Grade>, AllocError>
     requires { All (λ e. i < length e.grades) examples.now }
-    ensures grades { IfOk result (λ ranked. ranked.items ≡ ranking (direction_of scale.now) (map (grade_on i) examples.now)) }
+    ensures grades { IfOk result (λ ranked. ranked.items
+        ≡ ranking (direction_of scale.now) (map (grade_on i) examples.now)) }
     ensures few { IfOk result (λ ranked. length ranked.items ≤ 4000000000) }
 {
     let mut grades = column(alloc, examples, i)?;

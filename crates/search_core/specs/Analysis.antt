@@ -42,10 +42,11 @@ IsLastOpen t stamps stamp below (Some p) =
 abbrev pub ChainsFrom : Assignment ℕ → List (List ℕ) → List ℕ → ℕ → ℕ → List ℕ → List ℕ → Type 0
 ChainsFrom t clauses stamps stamp below lower hints =
     (known : List (List ℕ)) (set : List ℕ) → AreReordered known clauses → All (IsFalseUnder set) lower
-    → ((i : ℕ) → i < below → IsOpen t stamps stamp i → Contains set (entry_at t i).literal) → Chains known set (reverse hints)
+    → ((i : ℕ) → i < below → IsOpen t stamps stamp i → Contains set (entry_at t i).literal)
+    → Chains known set (reverse hints)
 
--- what a lemma is made of: the negation of the point, which is true on the current level, and lower literals; at level 0
--- there is no point
+-- what a lemma is made of: the negation of the point, which is true on the current level, and lower literals; at level
+-- 0 there is no point
 pub record IsPoint (t : Assignment ℕ) (lower : List ℕ) (point : ℕ) : Type 0 where
   pub above : 0 < t.level
   pub entry : (i : ℕ) × IsEntry t point i × ((entry_at t i).level ≡ t.level)
@@ -56,8 +57,8 @@ abbrev pub IsMade : Assignment ℕ → Option ℕ → List ℕ → Type 0
 IsMade t None lower = t.level ≡ 0
 IsMade t (Some point) lower = IsPoint t lower point
 
--- hints, the last one first, show a lemma, in whatever order the literals of the clauses are: they chain from each set that
--- has the point and makes the lower literals false; without a point, from the empty set
+-- hints, the last one first, show a lemma, in whatever order the literals of the clauses are: they chain from each set
+-- that has the point and makes the lower literals false; without a point, from the empty set
 abbrev pub Show : List (List ℕ) → Option ℕ → List ℕ → List ℕ → Type 0
 Show clauses None lower hints = (known : List (List ℕ)) → AreReordered known clauses → Chains known [] (reverse hints)
 Show clauses (Some point) lower hints =
@@ -67,7 +68,8 @@ Show clauses (Some point) lower hints =
 -- some entry of the current level makes a literal of the clause false
 abbrev pub HasCurrent : Assignment ℕ → List ℕ → Type 0
 HasCurrent t clause =
-    (i : ℕ) × (i < length t.entries) × ((entry_at t i).level ≡ t.level) × Contains clause (negation (entry_at t i).literal)
+    (i : ℕ) × (i < length t.entries) × ((entry_at t i).level ≡ t.level)
+    × Contains clause (negation (entry_at t i).literal)
 
 -- each literal of the clause is false, or marked
 abbrev pub IsFalseOrMarked : Assignment ℕ → List ℕ → ℕ → ℕ → Type 0
@@ -84,7 +86,8 @@ below_of None = 0
 below_of (Some p) = p + 1
 
 -- what holds on the way back from the false clause; the last open entry is at a place, if there is one
-pub record IsWalked (t : Assignment ℕ) (clauses : List (List ℕ)) (stamps : List ℕ) (stamp : ℕ) (lower hints : List ℕ) (last : Option ℕ) : Type 0 where
+pub record IsWalked (t : Assignment ℕ) (clauses : List (List ℕ)) (stamps : List ℕ) (stamp : ℕ) (lower hints : List ℕ)
+    (last : Option ℕ) : Type 0 where
   pub marks : AreMarked t stamps stamp lower
   pub chain : ChainsFrom t clauses stamps stamp (below_of last) lower hints
   pub at : IfSome last (IsOpen t stamps stamp)
@@ -106,24 +109,33 @@ HasLevel t l level = (i : ℕ) → IsEntry t (negation l) i → (entry_at t i).l
 
 -- no lower literal became false above this level, and the first did on it; without lower literals it is level 0
 pub record IsHighest (t : Assignment ℕ) (lower : List ℕ) (level : ℕ) : Type 0 where
-  pub most : (k i : ℕ) → k < length lower → IsEntry t (negation (slice_index_or lower k 0)) i → (entry_at t i).level ≤ level
+  pub most : (k i : ℕ) → k < length lower → IsEntry t (negation (slice_index_or lower k 0)) i
+      → (entry_at t i).level ≤ level
   pub first : 0 < length lower → HasLevel t (slice_index_or lower 0 0) level
   pub none : lower ≡ [] → level ≡ 0
 
 -- a lemma was logged and added, the trail went back, and the lemma's first literal was assigned
-pub record IsLearned (clauses : List (List ℕ)) (t : Assignment ℕ) (log : List Lemma) (point : ℕ) (lower hints : List ℕ) (clauses' : List (List ℕ)) (t' : Assignment ℕ) (log' : List Lemma) : Type 0 where
+pub record IsLearned (clauses : List (List ℕ)) (t : Assignment ℕ) (log : List Lemma) (point : ℕ) (lower hints : List ℕ)
+    (clauses' : List (List ℕ)) (t' : Assignment ℕ) (log' : List Lemma) : Type 0 where
   pub others : List ℕ
   pub level : ℕ
   pub order : IsPermutation lower others
   pub highest : IsHighest t others level
   pub logged :
       log'
-      ≡ log ++ record { id = length clauses + 1; literals = map outer (negation point ∷ others); hints = reverse hints } ∷ []
+      ≡ log
+      ++ record {
+        id = length clauses + 1;
+        literals = map outer
+            (negation point ∷ others);
+        hints = reverse hints;
+      } ∷ []
   pub added : clauses' ≡ clauses ++ (negation point ∷ others) ∷ []
   pub trail : t' ≡ assigned (undone t level) (negation point) (Some (length clauses))
 
 -- an analysis of a false clause
-pub record IsExplained (t : Assignment ℕ) (clauses : List (List ℕ)) (point : Option ℕ) (lower hints : List ℕ) : Type 0 where
+pub record IsExplained (t : Assignment ℕ) (clauses : List (List ℕ)) (point : Option ℕ)
+    (lower hints : List ℕ) : Type 0 where
   pub made : IsMade t point lower
   pub shown : Show clauses point lower hints
   pub ids : All (λ h. (1 ≤ h) × (h ≤ length clauses)) hints

@@ -8,7 +8,8 @@ use Rattle.chain_core.specs.Fresh.{HasNoPair}
 abbrev pub PropagationEnds : Cnf → Type 0
 PropagationEnds formula =
     MeetsConflict formula.clauses []
-    ⊎ ((v : ℕ) → 1 ≤ v → v ≤ formula.variables → IsGiven formula.clauses [] (plus v) ⊎ IsGiven formula.clauses [] (minus v))
+    ⊎ ((v : ℕ) → 1 ≤ v → v ≤ formula.variables
+    → IsGiven formula.clauses [] (plus v) ⊎ IsGiven formula.clauses [] (minus v))
 
 -- a clause is subsumed by another one if it has all literals of that one
 abbrev pub IsSubsumedBy : List ℕ → List ℕ → Type 0
@@ -20,4 +21,5 @@ pub record NoneSubsumed (variables : ℕ) (clauses : List (List ℕ)) : Type 0 w
   pub literals : AreLiterals variables clauses
   pub no_pair : All HasNoPair clauses
   pub later :
-      (i j : ℕ) → i < j → j < length clauses → ¬ IsSubsumedBy (slice_index_or clauses j []) (slice_index_or clauses i [])
+      (i j : ℕ) → i < j → j < length clauses
+      → ¬ IsSubsumedBy (slice_index_or clauses j []) (slice_index_or clauses i [])

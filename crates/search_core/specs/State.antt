@@ -37,15 +37,16 @@ abbrev pub IsTrueAtStart : Assignment ℕ → List ℕ → Type 0
 IsTrueAtStart t clause =
     (i : ℕ) × (i < length t.entries) × ((entry_at t i).level ≡ 0) × Contains clause (entry_at t i).literal
 
--- the clauses are those that are known, each in some order; it is known why literals are true; and of the first n clauses
--- each that has no literal or one alone is true at level 0
+-- the clauses are those that are known, each in some order; it is known why literals are true; and of the first n
+-- clauses each that has no literal or one alone is true at level 0
 pub record IsSound (n : ℕ) (known clauses : List (List ℕ)) (t : Assignment ℕ) : Type 0 where
   pub order : AreReordered known clauses
   pub reasoned : AreReasoned t clauses
   pub units : (c : ℕ) → c < n → length (slice_index_or clauses c []) ≤ 1 → IsTrueAtStart t (slice_index_or clauses c [])
 
 -- a step after which what held still holds
-pub record GoesOn (clauses : List (List ℕ)) (t : Assignment ℕ) (clauses' : List (List ℕ)) (t' : Assignment ℕ) : Type 0 where
+pub record GoesOn (clauses : List (List ℕ)) (t : Assignment ℕ) (clauses' : List (List ℕ))
+    (t' : Assignment ℕ) : Type 0 where
   pub sound : (n : ℕ) (known : List (List ℕ)) → IsSound n known clauses t → IsSound n known clauses' t'
   pub variables : t'.variables ≡ t.variables
   pub count : length clauses' ≡ length clauses

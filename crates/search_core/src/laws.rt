@@ -10,14 +10,15 @@ ghost use Rattle.search_core.specs.declared.outcome.TheConstants.{MOST_LEMMAS};
 
 /// Clauses of which none is subsumed by an earlier one are few.
 ///
-/// There are at most as many as three to the power of the number of variables, and fewer if none is empty. The lemmas of
-/// a fresh log are such clauses.
+/// There are at most as many as three to the power of the number of variables, and fewer if none is empty. The lemmas
+/// of a fresh log are such clauses.
 pub fn clauses_not_subsumed_by_earlier_ones_are_few()
     ensures most { (variables : ℕ) (clauses : List (List ℕ)) → NoneSubsumed variables clauses
         → length clauses ≤ 3 ^ variables }
     ensures fewer { (variables : ℕ) (clauses : List (List ℕ)) → NoneSubsumed variables clauses
         → All (λ clause. clause ≢ []) clauses → length clauses < 3 ^ variables }
-    ensures lemmas { (formula : Cnf) (log : List Lemma) → AreLiterals formula.variables (map (λ lemma. lemma.literals) log)
+    ensures lemmas { (formula : Cnf) (log : List Lemma)
+        → AreLiterals formula.variables (map (λ lemma. lemma.literals) log)
         → IsFresh formula log → NoneSubsumed formula.variables (map (λ lemma. lemma.literals) log) }
 {}
 

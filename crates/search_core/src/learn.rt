@@ -87,7 +87,8 @@ pub(crate) fn learn(
     requires current { All (λ (e : Entry ℕ). e.level ≡ watched.old.trail.level) (waiting watched.old.trail) }
     requires hints { All (λ h. 1 ≤ h) analysis.old.hints.items }
     requires short { length analysis.old.hints.items ≤ MOST_ITEMS }
-    ensures learned { OnOk result (IsLearned watched.old.clauses watched.old.trail log.old point analysis.old.lower.items
+    ensures learned { OnOk result
+        (IsLearned watched.old.clauses watched.old.trail log.old point analysis.old.lower.items
         analysis.old.hints.items watched.new.clauses watched.new.trail log.new) }
     ensures ready { OnOk result (CanPropagate place watched.new.trail (placed place watched.new.clauses)) }
     ensures stamps { analysis.new.stamps.items ≡ analysis.old.stamps.items }

@@ -1,4 +1,4 @@
-//! Search for values that satisfy a formula: decisions, propagation by watched literals, and lemmas learned from conflicts.
+//! Search for values that satisfy a formula: decisions, propagation, and lemmas learned from conflicts.
 #![tactic(auto)]
 
 mod activity;

@@ -74,8 +74,8 @@ pub(crate) fn mark_clause(
     Ok(())
 }
 
-/// The last place below `below` on the trail, on the current level, whose variable is marked. From `floor` on all places
-/// are of the current level, so levels are looked up below it alone; this is a hint.
+/// The last place below `below` on the trail, on the current level, whose variable is marked. From `floor` on all
+/// places are of the current level, so levels are looked up below it alone; this is a hint.
 pub(crate) fn last_marked(
     trail: &Trail<InnerLiteral>,
     stamps: &[u32],

@@ -88,8 +88,8 @@ impl Analysis {
         }
     }
 
-    /// Leaves out the literal at a place of `lower`, if it follows from the others. The clause that shows this joins the
-    /// hints.
+    /// Leaves out the literal at a place of `lower`, if it follows from the others. The clause that shows this joins
+    /// the hints.
     fn leave_out<S: Ledger>(
         &mut self,
         trail: &Trail<InnerLiteral>,
@@ -109,7 +109,8 @@ impl Analysis {
         ensures old { All (λ s. s ≤ self.new.stamp) self.new.stamps.items }
         ensures stamp { self.new.stamp ≡ self.old.stamp }
         ensures marked { OnOk result (AreMarked trail.now self.new.stamps.items self.new.stamp self.new.lower.items) }
-        ensures explained { (point : ℕ) → IsExplained trail.now arena.now (Some point) self.old.lower.items self.old.hints.items
+        ensures explained { (point : ℕ)
+            → IsExplained trail.now arena.now (Some point) self.old.lower.items self.old.hints.items
             → OnOk result (IsExplained trail.now arena.now (Some point) self.new.lower.items self.new.hints.items) }
         ensures few { OnOk result (k ≤ length self.new.lower.items) }
     {
@@ -143,7 +144,8 @@ impl Analysis {
         ensures size { length self.new.stamps.items ≡ length self.old.stamps.items }
         ensures old { All (λ s. s ≤ self.new.stamp) self.new.stamps.items }
         ensures stamp { self.new.stamp ≡ self.old.stamp }
-        ensures explained { (point : ℕ) → IsExplained trail.now arena.now (Some point) self.old.lower.items self.old.hints.items
+        ensures explained { (point : ℕ)
+            → IsExplained trail.now arena.now (Some point) self.old.lower.items self.old.hints.items
             → OnOk result (IsExplained trail.now arena.now (Some point) self.new.lower.items self.new.hints.items) }
     {
         let mut k = self.lower.len();

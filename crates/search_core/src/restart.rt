@@ -12,7 +12,8 @@ use watch_core::Watched;
 /// The number of conflicts that one unit of the sequence stands for.
 const UNIT: u64 = 250;
 
-/// Counts conflicts down to the next restart, along the sequence of Luby, Sinclair and Zuckerman (1993): 1, 1, 2, 1, 1, 2, 4, ..
+/// Counts conflicts down to the next restart, along the sequence of Luby, Sinclair and Zuckerman (1993): 1, 1, 2, 1,
+/// 1, 2, 4, ..
 #[derive(Clone, Copy)]
 pub(crate) struct Restarts {
     left: u64,

@@ -36,8 +36,8 @@ use watch_core::{Trail, Watched};
 ///
 /// - `Sat` with values that make every clause true,
 /// - `Unsat` with a refutation of at most `most` lemmas, or
-/// - `Limit` with a good and fresh log of exactly `most` lemmas, none of them empty. There are fewer of these than three
-///   to the power of the number of variables.
+/// - `Limit` with a good and fresh log of exactly `most` lemmas, none of them empty. There are fewer of these than
+///   three to the power of the number of variables.
 ///
 /// `Limit` never comes if unit propagation from the formula alone meets a false clause or assigns every variable.
 pub fn search(alloc: Global, formula: &Formula, most: u64) -> Result<Outcome, AllocError>
@@ -132,7 +132,8 @@ fn explain<S: Ledger>(
     looks: &mut Steps<S>,
 ) -> Result<Option<InnerLiteral>, AllocError>
     requires known { conflict < length watched.now.clauses }
-    requires out { IsClauseFalse (places place watched.now.trail.entries) (slice_index_or watched.now.clauses conflict []) }
+    requires out { IsClauseFalse (places place watched.now.trail.entries)
+        (slice_index_or watched.now.clauses conflict []) }
     requires current { 0 < watched.now.trail.level
         → HasCurrent watched.now.trail (slice_index_or watched.now.clauses conflict []) }
     requires reasoned { AreReasoned watched.now.trail watched.now.clauses }

@@ -34,7 +34,8 @@ pub record CanAdd {L : Type 0} (at : L → ℕ) (t : Assignment L) (c : List ℕ
       2 ≤ length c
       → (is_false (places at t.entries) (slice_index_or c 1 0) ≡ false)
       ⊎ ((i : ℕ) → 1 ≤ i → i < length c
-      → (is_false (places at t.entries) (slice_index_or c i 0) ≡ true) × NotAfter at t (slice_index_or c i 0) (slice_index_or c 1 0))
+      → (is_false (places at t.entries) (slice_index_or c i 0) ≡ true)
+      × NotAfter at t (slice_index_or c i 0) (slice_index_or c 1 0))
 
 -- both seats of a clause go into the chains of its first two literals
 abbrev pub both_put : List (List ℕ) → ℕ → List ℕ → List (List ℕ)

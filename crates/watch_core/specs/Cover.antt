@@ -44,7 +44,8 @@ Covered strong set waits clauses s =
     s / 2 < length clauses → 2 ≤ length (clause_of clauses s)
     → is_false set (watched_at clauses s) ≡ true → is_false waits (watched_at clauses s) ≡ false
     → HasTrue set (clause_of clauses s)
-    ⊎ (AllBut set waits (clause_of clauses s) (beside clauses s) × (strong ≡ true → is_false waits (beside clauses s) ≡ true))
+    ⊎ (AllBut set waits (clause_of clauses s) (beside clauses s)
+    × (strong ≡ true → is_false waits (beside clauses s) ≡ true))
 
 -- each seat is covered
 abbrev pub AllCovered : Bool → List ℕ → List ℕ → List (List ℕ) → Type 0
@@ -56,7 +57,8 @@ CoveredAtCuts strong at t clauses =
     (k : ℕ) → k ≤ t.level → AllCovered strong (places at (cut t.entries k)) (places at (cut (waiting t) k)) clauses
 
 -- what holds between the calls of `Watched`; and, if it is strong, inside `propagate`
-pub record IsCovered {L : Type 0} (strong : Bool) (at : L → ℕ) (clauses chains : List (List ℕ)) (t : Assignment L) : Type 0 where
+pub record IsCovered {L : Type 0} (strong : Bool) (at : L → ℕ) (clauses chains : List (List ℕ))
+    (t : Assignment L) : Type 0 where
   pub trail : IsTrail at t
   pub watches : Watches clauses chains
   pub covered : CoveredAtCuts strong at t clauses

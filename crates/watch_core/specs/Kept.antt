@@ -18,24 +18,29 @@ reason_of n = if n == NO_REASON then None else Some n
 
 -- a true literal with what the mark of its variable says
 abbrev pub entry_of : {L : Type 0} → (L → ℕ) → List Mark → L → Entry L
-entry_of at marks l = record { literal = l; level = (slice_index_or marks (variable_of (at l)) blank).level; reason = reason_of (slice_index_or marks (variable_of (at l)) blank).reason }
+entry_of at marks l =
+    let mark = slice_index_or marks (variable_of (at l)) blank in
+    record { literal = l; level = mark.level; reason = reason_of mark.reason }
 
 -- the entries of a trail
 abbrev pub entries_of : {L : Type 0} → (L → ℕ) → List Mark → List L → List (Entry L)
 entries_of at marks order = map (entry_of at marks) order
 
 -- the tables tell which literals are true and which are false, and each variable stands once
-pub record IsKept {L : Type 0} (at : L → ℕ) (values : List ℕ) (marks : List Mark) (order : List L) (capacity taken : ℕ) : Type 0 where
+pub record IsKept {L : Type 0} (at : L → ℕ) (values : List ℕ) (marks : List Mark) (order : List L)
+    (capacity taken : ℕ) : Type 0 where
   pub sizes : length values ≡ 2 * length marks
   pub inside : All (λ l. at l < length values) order
-  pub apart : (i j : ℕ) (d : L) → i < j → j < length order → variable_of (at (slice_index_or order i d)) ≢ variable_of (at (slice_index_or order j d))
+  pub apart : (i j : ℕ) (d : L) → i < j → j < length order
+      → variable_of (at (slice_index_or order i d)) ≢ variable_of (at (slice_index_or order j d))
   pub trues : (x : ℕ) → x < length values → (slice_index values x == 1) ≡ is_true (map at order) x
   pub falses : (x : ℕ) → x < length values → (slice_index values x == 2) ≡ is_false (map at order) x
   pub room : length marks ≤ capacity
   pub within : taken ≤ length order
 
 -- all that a trail keeps
-pub record Keeps {L : Type 0} (at : L → ℕ) (values : List ℕ) (marks : List Mark) (order : List L) (capacity taken level : ℕ) : Type 0 where
+pub record Keeps {L : Type 0} (at : L → ℕ) (values : List ℕ) (marks : List Mark) (order : List L)
+    (capacity taken level : ℕ) : Type 0 where
   pub kept : IsKept at values marks order capacity taken
   pub leveled : IsLeveled (entries_of at marks order) level
   pub few : length marks ≤ MOST_VARIABLES

@@ -12,15 +12,20 @@ pub record AreReordered {A : Type 0} (clauses clauses' : List (List A)) : Type 0
 pub record IsReason {L : Type 0} (at : L → ℕ) (t : Assignment L) (clauses : List (List ℕ)) (k id : ℕ) : Type 0 where
   pub known : id < length clauses
   pub has : (e : Entry L) → Contains (slice_index_or clauses id []) (at (slice_index_or t.entries k e).literal)
-  pub false_before : (e : Entry L) → All (λ l. (l ≡ at (slice_index_or t.entries k e).literal) ⊎ (is_false (places at (take k t.entries)) l ≡ true)) (slice_index_or clauses id [])
+  pub false_before : (e : Entry L)
+      → All (λ l. (l ≡ at (slice_index_or t.entries k e).literal)
+      ⊎ (is_false (places at (take k t.entries)) l ≡ true)) (slice_index_or clauses id [])
 
--- what propagation does: the trail's old entries stay, what was taken in stays taken in, and each new entry has a reason
-pub record Propagates {L : Type 0} (at : L → ℕ) (clauses : List (List ℕ)) (t : Assignment L) (clauses' : List (List ℕ)) (t' : Assignment L) : Type 0 where
+-- what propagation does: old entries of the trail stay, what was taken in stays so, and each new entry has a reason
+pub record Propagates {L : Type 0} (at : L → ℕ) (clauses : List (List ℕ)) (t : Assignment L) (clauses' : List (List ℕ))
+    (t' : Assignment L) : Type 0 where
   pub order : AreReordered clauses clauses'
   pub level : t'.level ≡ t.level
   pub variables : t'.variables ≡ t.variables
   pub taken : t.taken ≤ t'.taken
   pub more : length t.entries ≤ length t'.entries
   pub kept : take (length t.entries) t'.entries ≡ t.entries
-  pub current : (i : ℕ) (e : Entry L) → length t.entries ≤ i → i < length t'.entries → (slice_index_or t'.entries i e).level ≡ t.level
-  pub reasons : (i : ℕ) (e : Entry L) → length t.entries ≤ i → i < length t'.entries → (id : ℕ) × ((slice_index_or t'.entries i e).reason ≡ Some id) × IsReason at t' clauses' i id
+  pub current : (i : ℕ) (e : Entry L) → length t.entries ≤ i → i < length t'.entries
+      → (slice_index_or t'.entries i e).level ≡ t.level
+  pub reasons : (i : ℕ) (e : Entry L) → length t.entries ≤ i → i < length t'.entries
+      → (id : ℕ) × ((slice_index_or t'.entries i e).reason ≡ Some id) × IsReason at t' clauses' i id

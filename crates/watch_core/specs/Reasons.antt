@@ -14,11 +14,13 @@ pub record IsUnitFor (set : List ℕ) (clauses : List (List ℕ)) (id literal : 
 -- each entry with a reason has it: a clause with the entry's literal, whose other literals are false and earlier
 abbrev pub HasReasons : {L : Type 0} → (L → ℕ) → Assignment L → List (List ℕ) → Type 0
 HasReasons {L} at t clauses =
-    (i id : ℕ) (e : Entry L) → i < length t.entries → (slice_index_or t.entries i e).reason ≡ Some id → IsReason at t clauses i id
+    (i id : ℕ) (e : Entry L) → i < length t.entries → (slice_index_or t.entries i e).reason ≡ Some id
+    → IsReason at t clauses i id
 
 -- all entries before one are of lower levels
 abbrev pub BeginsLevel : {L : Type 0} → Assignment L → ℕ → Type 0
-BeginsLevel {L} t i = (j : ℕ) (e : Entry L) → j < i → (slice_index_or t.entries j e).level < (slice_index_or t.entries i e).level
+BeginsLevel {L} t i = (j : ℕ) (e : Entry L) → j < i
+    → (slice_index_or t.entries j e).level < (slice_index_or t.entries i e).level
 
 -- the entry at a place is the decision of a level
 pub record IsDecisionOf {L : Type 0} (t : Assignment L) (level i : ℕ) : Type 0 where
@@ -44,7 +46,9 @@ HasReasonsAtStart {L} t =
 abbrev pub IsFalseOn : {L : Type 0} → (L → ℕ) → Assignment L → ℕ → ℕ → Type 0
 IsFalseOn {L} at t level literal =
     (i : ℕ) × (i < length t.entries)
-    × ((e : Entry L) → (at (slice_index_or t.entries i e).literal ≡ negation literal) × ((slice_index_or t.entries i e).level ≡ level))
+    × ((e : Entry L)
+    → (at (slice_index_or t.entries i e).literal ≡ negation literal)
+    × ((slice_index_or t.entries i e).level ≡ level))
 
 -- two literals of a clause became false on a level
 pub record HasTwoFalseOn {L : Type 0} (at : L → ℕ) (t : Assignment L) (level : ℕ) (clause : List ℕ) : Type 0 where
@@ -52,4 +56,5 @@ pub record HasTwoFalseOn {L : Type 0} (at : L → ℕ) (t : Assignment L) (level
   pub second : ℕ
   pub apart : first < second
   pub inside : second < length clause
-  pub falses : IsFalseOn at t level (slice_index_or clause first 0) × IsFalseOn at t level (slice_index_or clause second 0)
+  pub falses : IsFalseOn at t level (slice_index_or clause first 0)
+      × IsFalseOn at t level (slice_index_or clause second 0)

@@ -73,7 +73,8 @@ empty_trail variables = record { entries = []; level = 0; taken = 0; variables =
 
 -- levels along a trail: none falls, none is above the current one, and the entries of levels up to k are at least k
 pub record IsLeveled {L : Type 0} (entries : List (Entry L)) (level : ℕ) : Type 0 where
-  pub sorted : (i j : ℕ) (d : Entry L) → i < j → j < length entries → (slice_index_or entries i d).level ≤ (slice_index_or entries j d).level
+  pub sorted : (i j : ℕ) (d : Entry L) → i < j → j < length entries
+      → (slice_index_or entries i d).level ≤ (slice_index_or entries j d).level
   pub below : All (λ (e : Entry L). e.level ≤ level) entries
   pub begun : (k : ℕ) → k ≤ level → k ≤ length (cut entries k)
 
@@ -85,4 +86,6 @@ pub record IsTrail {L : Type 0} (at : L → ℕ) (t : Assignment L) : Type 0 whe
   pub few : t.variables ≤ MOST_VARIABLES
   pub low : t.level ≤ t.variables
   pub short : length t.entries ≤ t.variables
-  pub apart : (i j : ℕ) (d : Entry L) → i < j → j < length t.entries → variable_of (at (slice_index_or t.entries i d).literal) ≢ variable_of (at (slice_index_or t.entries j d).literal)
+  pub apart : (i j : ℕ) (d : Entry L) → i < j → j < length t.entries
+      → variable_of (at (slice_index_or t.entries i d).literal) ≢ variable_of
+      (at (slice_index_or t.entries j d).literal)

@@ -13,11 +13,16 @@ pub record IsSeat (clauses : List (List ℕ)) (seat : ℕ) : Type 0 where
   pub long : 2 ≤ length (clause_of clauses seat)
 
 -- the seat stays, and its clause has a true literal; or it moved to another chain; or its clause is false
-abbrev pub Visited : {L : Type 0} → (L → ℕ) → List (List ℕ) → List (List ℕ) → Assignment L → List (List ℕ) → List (List ℕ) → Assignment L → ℕ → Visit → Type 0
-Visited at clauses chains t clauses' chains' t' seat Stays = (chains' ≡ chains) × HasTrue (places at t'.entries) (clause_of clauses' seat)
-Visited at clauses chains t clauses' chains' t' seat Moved = (g : ℕ) × (g ≢ watched_at clauses seat) × (chains' ≡ put_first (taken_out chains seat) g seat)
-Visited at clauses chains t clauses' chains' t' seat False = IsClauseFalse (places at t'.entries) (clause_of clauses' seat)
+abbrev pub Visited : {L : Type 0} → (L → ℕ) → List (List ℕ) → List (List ℕ) → Assignment L → List (List ℕ)
+    → List (List ℕ) → Assignment L → ℕ → Visit → Type 0
+Visited at clauses chains t clauses' chains' t' seat Stays =
+    (chains' ≡ chains) × HasTrue (places at t'.entries) (clause_of clauses' seat)
+Visited at clauses chains t clauses' chains' t' seat Moved =
+    (g : ℕ) × (g ≢ watched_at clauses seat) × (chains' ≡ put_first (taken_out chains seat) g seat)
+Visited at clauses chains t clauses' chains' t' seat False =
+    IsClauseFalse (places at t'.entries) (clause_of clauses' seat)
 
 -- each clause that watches a literal has a true one
 abbrev pub AllWalked : List ℕ → List (List ℕ) → ℕ → Type 0
-AllWalked set clauses p = (s : ℕ) → s / 2 < length clauses → 2 ≤ length (clause_of clauses s) → watched_at clauses s ≡ p → HasTrue set (clause_of clauses s)
+AllWalked set clauses p = (s : ℕ) → s / 2 < length clauses → 2 ≤ length (clause_of clauses s) → watched_at clauses s ≡ p
+    → HasTrue set (clause_of clauses s)

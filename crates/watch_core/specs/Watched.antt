@@ -10,6 +10,7 @@ pub record Clauses (L : Type 0) : Type 0 where
   pub trail : Assignment L
 
 -- what the chains keep true
-pub record IsHeld {L : Type 0} (at : L → ℕ) (clauses : List (List L)) (chains : List (List ℕ)) (room : ℕ) (t : Assignment L) : Type 0 where
+pub record IsHeld {L : Type 0} (at : L → ℕ) (clauses : List (List L)) (chains : List (List ℕ)) (room : ℕ)
+    (t : Assignment L) : Type 0 where
   pub covers : IsCovered false at (placed at clauses) chains t
   pub fits : length clauses ≤ room

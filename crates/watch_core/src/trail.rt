@@ -47,9 +47,15 @@ impl<L: Lit> Model for Trail<L> {
 
     ghost use Rattle.watch_core.specs.Kept.{entries_of, Keeps};
 
-    ghost view = { λ a. record { entries = entries_of L.table_place a.marks.items a.order.items; level = a.level; taken = a.taken; variables = length a.marks.items } };
+    ghost view = { λ a. record {
+      entries = entries_of L.table_place a.marks.items a.order.items;
+      level = a.level;
+      taken = a.taken;
+      variables = length a.marks.items;
+    } };
 
-    ghost invariant = { λ a. Keeps L.table_place a.values.items a.marks.items a.order.items (vec_capacity a.order) a.taken a.level };
+    ghost invariant = { λ a. Keeps L.table_place a.values.items a.marks.items a.order.items
+        (vec_capacity a.order) a.taken a.level };
 }
 
 impl<L: Lit> Trail<L> {
@@ -102,7 +108,9 @@ impl<L: Lit> Trail<L> {
     #[inline]
     pub fn level_of(&self, variable: u32) -> u32
         requires { variable < self.now.variables }
-        ensures { (i : ℕ) (d : Entry L) → i < length self.now.entries → variable_of (L.table_place (slice_index_or self.now.entries i d).literal) ≡ variable → result ≡ (slice_index_or self.now.entries i d).level }
+        ensures { (i : ℕ) (d : Entry L) → i < length self.now.entries
+            → variable_of (L.table_place (slice_index_or self.now.entries i d).literal) ≡ variable
+            → result ≡ (slice_index_or self.now.entries i d).level }
     {
         self.marks[variable as usize].level
     }
@@ -112,7 +120,9 @@ impl<L: Lit> Trail<L> {
     pub fn reason_of(&self, variable: u32) -> Option<ClauseId>
         requires { variable < self.now.variables }
         ensures unassigned { value_of (places L.table_place self.now.entries) (2 * variable) ≡ None → result ≡ None }
-        ensures given { (i : ℕ) (d : Entry L) → i < length self.now.entries → variable_of (L.table_place (slice_index_or self.now.entries i d).literal) ≡ variable → result ≡ (slice_index_or self.now.entries i d).reason }
+        ensures given { (i : ℕ) (d : Entry L) → i < length self.now.entries
+            → variable_of (L.table_place (slice_index_or self.now.entries i d).literal) ≡ variable
+            → result ≡ (slice_index_or self.now.entries i d).reason }
     {
         if self.value_at(2 * variable as usize).is_none() {
             return None;
@@ -248,10 +258,13 @@ impl<L: Lit> Trail<L> {
 /// Clears the values of the literals of higher levels, which stand last, and counts the others.
 fn clear_above<L: Lit>(values: &mut [u8], marks: &[Mark], order: &[L], level: u32) -> usize
     requires kept { IsKept L.table_place values.old marks.now order.now (length marks.now) 0 }
-    requires sorted { (i j : ℕ) (d : Entry L) → i < j → j < length order.now → (slice_index_or (entries_of L.table_place marks.now order.now) i d).level ≤ (slice_index_or (entries_of L.table_place marks.now order.now) j d).level }
+    requires sorted { (i j : ℕ) (d : Entry L) → i < j → j < length order.now
+        → (slice_index_or (entries_of L.table_place marks.now order.now) i d).level
+        ≤ (slice_index_or (entries_of L.table_place marks.now order.now) j d).level }
     ensures kept { IsKept L.table_place values.new marks.now (take result order.now) (length marks.now) 0 }
     ensures few { result ≤ length order.now }
-    ensures cut { cut (entries_of L.table_place marks.now order.now) level ≡ take result (entries_of L.table_place marks.now order.now) }
+    ensures cut { cut (entries_of L.table_place marks.now order.now) level
+        ≡ take result (entries_of L.table_place marks.now order.now) }
 {
     let mut size = order.len();
     while size > 0 {
@@ -296,8 +309,11 @@ fn reason_numbered(number: u32) -> Option<ClauseId>
 #[inline]
 pub(crate) fn open_place<L: Lit>(trail: &Trail<L>, clause: &[L]) -> Option<usize>
     requires { All (λ l. L.table_place l < 2 * trail.now.variables) clause.now }
-    ensures found { IfSome result (λ j. (2 ≤ j) × (j < length clause.now) × ((l : L) → is_false (places L.table_place trail.now.entries) (L.table_place (slice_index_or clause.now j l)) ≡ false)) }
-    ensures none { IfNone result ((j : ℕ) (l : L) → 2 ≤ j → j < length clause.now → is_false (places L.table_place trail.now.entries) (L.table_place (slice_index_or clause.now j l)) ≡ true) }
+    ensures found { IfSome result (λ j. (2 ≤ j) × (j < length clause.now)
+        × ((l : L)
+        → is_false (places L.table_place trail.now.entries) (L.table_place (slice_index_or clause.now j l)) ≡ false)) }
+    ensures none { IfNone result ((j : ℕ) (l : L) → 2 ≤ j → j < length clause.now
+        → is_false (places L.table_place trail.now.entries) (L.table_place (slice_index_or clause.now j l)) ≡ true) }
 {
     for j in 2..clause.len() {
         let literal = clause[j];

@@ -37,13 +37,16 @@ fn visit_seat<L: Lit, S: Ledger>(
 ) -> Visit
     requires going { IsPropagating L.table_place (placed L.table_place arena.old) chains.old.chains trail.old }
     requires seat { IsSeat (placed L.table_place arena.old) seat }
-    requires waits { is_false (places L.table_place (waiting trail.old)) (watched_at (placed L.table_place arena.old) seat) ≡ true }
+    requires waits { is_false (places L.table_place (waiting trail.old))
+        (watched_at (placed L.table_place arena.old) seat) ≡ true }
     ensures going { IsPropagating L.table_place (placed L.table_place arena.new) chains.new.chains trail.new }
-    ensures goes { Propagates L.table_place (placed L.table_place arena.old) trail.old (placed L.table_place arena.new) trail.new }
+    ensures goes { Propagates L.table_place (placed L.table_place arena.old) trail.old
+        (placed L.table_place arena.new) trail.new }
     ensures room { chains.new.room ≡ chains.old.room }
     ensures taken { trail.new.taken ≡ trail.old.taken }
     ensures look { looks.new ≤ looks.old + 1 }
-    ensures outcome { Visited L.table_place (placed L.table_place arena.old) chains.old.chains trail.old (placed L.table_place arena.new) chains.new.chains trail.new seat result }
+    ensures outcome { Visited L.table_place (placed L.table_place arena.old) chains.old.chains trail.old
+        (placed L.table_place arena.new) chains.new.chains trail.new seat result }
 {
     let other = chains.literal_of(seat.other());
     if trail.is_true(other) {
@@ -76,13 +79,16 @@ fn walk<L: Lit, S: Ledger>(
     requires waits { is_false (places L.table_place (waiting trail.old)) (L.table_place literal) ≡ true }
     requires place { L.table_place literal < 2 * trail.old.variables }
     ensures going { IsPropagating L.table_place (placed L.table_place arena.new) chains.new.chains trail.new }
-    ensures goes { Propagates L.table_place (placed L.table_place arena.old) trail.old (placed L.table_place arena.new) trail.new }
+    ensures goes { Propagates L.table_place (placed L.table_place arena.old) trail.old
+        (placed L.table_place arena.new) trail.new }
     ensures room { chains.new.room ≡ chains.old.room }
     ensures taken { trail.new.taken ≡ trail.old.taken }
     ensures apart { AreApart chains.old.chains }
     ensures looks { looks.new ≤ looks.old + length (chain_at chains.old.chains (L.table_place literal)) }
-    ensures none { IfNone result (AllWalked (places L.table_place trail.new.entries) (placed L.table_place arena.new) (L.table_place literal)) }
-    ensures some { IfSome result (IsFalseClause (places L.table_place trail.new.entries) (placed L.table_place arena.new)) }
+    ensures none { IfNone result
+        (AllWalked (places L.table_place trail.new.entries) (placed L.table_place arena.new) (L.table_place literal)) }
+    ensures some { IfSome result
+        (IsFalseClause (places L.table_place trail.new.entries) (placed L.table_place arena.new)) }
 {
     let mut current = chains.first(literal);
     while let Some(seat) = current {
@@ -103,11 +109,15 @@ pub(crate) fn propagate_all<L: Lit, S: Ledger>(
 ) -> Option<ClauseId>
     requires going { IsPropagating L.table_place (placed L.table_place arena.old) chains.old.chains trail.old }
     ensures going { IsPropagating L.table_place (placed L.table_place arena.new) chains.new.chains trail.new }
-    ensures goes { Propagates L.table_place (placed L.table_place arena.old) trail.old (placed L.table_place arena.new) trail.new }
+    ensures goes { Propagates L.table_place (placed L.table_place arena.old) trail.old
+        (placed L.table_place arena.new) trail.new }
     ensures room { chains.new.room ≡ chains.old.room }
-    ensures looks { looks.new ≤ looks.old + false_occurrences (placed L.table_place arena.old) (places L.table_place (walked trail.old trail.new)) }
+    ensures looks { looks.new
+        ≤ looks.old + false_occurrences (placed L.table_place arena.old)
+        (places L.table_place (walked trail.old trail.new)) }
     ensures none { IfNone result (waiting trail.new ≡ []) }
-    ensures some { IfSome result (IsFalseClause (places L.table_place trail.new.entries) (placed L.table_place arena.new)) }
+    ensures some { IfSome result
+        (IsFalseClause (places L.table_place trail.new.entries) (placed L.table_place arena.new)) }
 {
     while let Some(literal) = trail.first_waiting() {
         if let Some(id) = walk(arena, chains, trail, literal.negation(), looks) {

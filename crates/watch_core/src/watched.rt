@@ -69,9 +69,13 @@ impl<L: Lit> Watched<L> {
     #[inline]
     pub fn arena(&self) -> &Arena<L>
         ensures value { result.now ≡ self.now.clauses }
-        ensures inside { (clause place : ℕ) → Contains (slice_index_or (placed L.table_place self.now.clauses) clause []) place → place < 2 * self.now.trail.variables }
-        ensures distinct { (clause : ℕ) → IsDistinct (λ x y. x == y) (slice_index_or (placed L.table_place self.now.clauses) clause []) }
-        ensures apart { (clause : ℕ) → HasDistinctVariables (slice_index_or (placed L.table_place self.now.clauses) clause []) }
+        ensures inside { (clause place : ℕ)
+            → Contains (slice_index_or (placed L.table_place self.now.clauses) clause []) place
+            → place < 2 * self.now.trail.variables }
+        ensures distinct { (clause : ℕ)
+            → IsDistinct (λ x y. x == y) (slice_index_or (placed L.table_place self.now.clauses) clause []) }
+        ensures apart { (clause : ℕ)
+            → HasDistinctVariables (slice_index_or (placed L.table_place self.now.clauses) clause []) }
     {
         &self.arena
     }
@@ -122,7 +126,8 @@ impl<L: Lit> Watched<L> {
         ensures clause { OnOk result (self.new.clauses ≡ self.old.clauses ++ literals.now ∷ []) }
         ensures err { OnErr result (self.new.clauses ≡ self.old.clauses) }
         ensures id { IfOk result (λ a. a.id ≡ length self.old.clauses) }
-        ensures standing { IfOk result (λ a. a.standing ≡ standing_of (places L.table_place self.old.trail.entries) (map L.table_place literals.now)) }
+        ensures standing { IfOk result (λ a. a.standing
+            ≡ standing_of (places L.table_place self.old.trail.entries) (map L.table_place literals.now)) }
     {
         let count = self.arena.count();
         self.chains.reserve(count + 1)?;
@@ -134,17 +139,20 @@ impl<L: Lit> Watched<L> {
 
     /// Takes in the waiting literals until none waits or a clause is false, and returns the number of that clause.
     ///
-    /// Condition: under the trail cut at each lower level each clause of two or more literals is settled, so it has a true
-    /// literal or two that aren't false. On the whole trail it is settled too, or has the negation of a waiting literal.
-    /// None is returned exactly when each clause is settled. The looks are at most the occurrences of the literals that
-    /// became false and whose chains were walked.
+    /// Condition: under the trail cut at each lower level each clause of two or more literals is settled, so it has a
+    /// true literal or two that aren't false. On the whole trail it is settled too, or has the negation of a waiting
+    /// literal. None is returned exactly when each clause is settled. The looks are at most the occurrences of the
+    /// literals that became false and whose chains were walked.
     pub fn propagate<S: Ledger>(&mut self, looks: &mut Steps<S>) -> Option<ClauseId>
         requires ready { CanPropagate L.table_place self.old.trail (placed L.table_place self.old.clauses) }
         ensures outcome { Outcome L.table_place self.new.trail (placed L.table_place self.new.clauses) result }
         ensures order { AreReordered self.old.clauses self.new.clauses }
-        ensures change { Propagates L.table_place (placed L.table_place self.old.clauses) self.old.trail (placed L.table_place self.new.clauses) self.new.trail }
+        ensures change { Propagates L.table_place (placed L.table_place self.old.clauses) self.old.trail
+            (placed L.table_place self.new.clauses) self.new.trail }
         ensures kept { IsTrail L.table_place self.new.trail }
-        ensures looks { looks.new ≤ looks.old + false_occurrences (placed L.table_place self.old.clauses) (places L.table_place (walked self.old.trail self.new.trail)) }
+        ensures looks { looks.new
+            ≤ looks.old + false_occurrences (placed L.table_place self.old.clauses)
+            (places L.table_place (walked self.old.trail self.new.trail)) }
     {
         propagate_all(&mut self.arena, &mut self.chains, &mut self.trail, looks)
     }

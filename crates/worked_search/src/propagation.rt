@@ -33,7 +33,8 @@ fn add(watched: &mut Watched<SmallLit>, first: u8, second: u8) -> Result<Added, 
     watched.add_clause(&[literal(first), literal(second)])
 }
 
-/// The clauses `-2 3`, `-4 1`, `-4 -1`, `-5 2`, `-5 -3` and `4 5`: after 4 is decided, one of `-4 1` and `-4 -1` is false.
+/// The clauses `-2 3`, `-4 1`, `-4 -1`, `-5 2`, `-5 -3` and `4 5`: after 4 is decided, one of `-4 1` and `-4 -1` is
+/// false.
 fn meets_a_false_clause<S: Ledger>(rt: &impl Abort, alloc: Global, blank: Blank) -> Result<(), Fail>
     requires name { blank.name ≡ S.name }
     requires parts { blank.parts ≡ S.parts }
