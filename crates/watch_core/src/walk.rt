@@ -27,7 +27,7 @@ pub enum Visit {
 
 /// Visits one seat of a literal that became false, at the price of one look at most.
 ///
-/// The chains know the other watched literal. If it is true, no look is taken. No literal before the third is read.
+/// The chains know the other watched literal. If it is true, that is enough; and no literal of a clause of two is read.
 fn visit_seat<L: Lit, S: Ledger>(
     arena: &mut Arena<L>,
     chains: &mut Chains<L>,
