@@ -32,8 +32,8 @@ thresholds_in values grades firsts boundaries i =
 abbrev pub flag_in : List Bool → List ℕ → RanksValue → ℕ → ℕ → ℕ → Bool
 flag_in values firsts ranks place row i =
     value_at values (slice_index_or firsts i 0
-        + place * count_in ranks.grades i
-        + slice_index_or (slice_index_or ranks.places i []) row 0)
+    + place * count_in ranks.grades i
+    + slice_index_or (slice_index_or ranks.places i []) row 0)
 
 -- the set of the example in a row, if its category is 1 or more
 abbrev pub own_in : List Bool → List ℕ → RanksValue → List Example → ℕ → List ℕ
