@@ -1,6 +1,6 @@
 //! A number text, cut into its parts.
 
-ghost use Rattle.std.specs.Prelude.{◌≡◌, ◌≤◌, ◌%◌, ◌^◌, ◌++◌, length, option_map, IfSome};
+ghost use Rattle.std.specs.Prelude.{[], ◌≡◌, ◌≢◌, ◌≤◌, ◌%◌, ◌^◌, ◌++◌, length, option_map, IfSome};
 ghost use Rattle.std.specs.List.{list_all};
 ghost use Rattle.std.specs.Char.{is_ascii_digit};
 ghost use Rattle.std.specs.Str.Parse.{AllDigits, digits_value, digits_value_after};
@@ -21,6 +21,7 @@ pub struct Parts<'a> {
 }
 
 // How many digits are in front, and the low 64 bits of their number after the digits of `start`.
+#[inline(always)]
 fn count_digits(text: &[u8], start: u64) -> (usize, u64)
     ensures len { result.0 ≡ digits_len text.now }
     ensures within { result.0 ≤ length text.now }
@@ -44,6 +45,7 @@ fn all_digits(text: &[u8]) -> bool
 }
 
 // The digits at the front, the rest, and the low 64 bits of the digits' number after `start`.
+#[inline(always)]
 fn split_digits(text: &[u8], start: u64) -> (&[u8], &[u8], u64)
     ensures digits { result.0.now ≡ front_digits text.now }
     ensures rest { result.1.now ≡ after_digits text.now }
@@ -56,6 +58,7 @@ fn split_digits(text: &[u8], start: u64) -> (&[u8], &[u8], u64)
 }
 
 // Whether a `-` is in front, and what follows an optional sign.
+#[inline(always)]
 fn split_sign(text: &[u8]) -> (bool, &[u8])
     ensures sign { result.0 ≡ is_minus text.now }
     ensures rest { result.1.now ≡ after_sign text.now }
@@ -68,6 +71,7 @@ fn split_sign(text: &[u8]) -> (bool, &[u8])
 }
 
 // The digits after a point, the rest, and the low 64 bits of the digits' number after `start`.
+#[inline(always)]
 fn split_fraction(text: &[u8], start: u64) -> (&[u8], &[u8], u64)
     ensures digits { result.0.now ≡ fraction_digits text.now }
     ensures rest { result.1.now ≡ after_fraction text.now }
@@ -80,13 +84,26 @@ fn split_fraction(text: &[u8], start: u64) -> (&[u8], &[u8], u64)
     }
 }
 
-// The sign and the digits of an exponent, which is all that is left of a text.
+// The sign and the digits of an exponent, which is all that is left of a text. Most texts have none.
+#[inline(always)]
 fn exponent_parts(text: &[u8]) -> Option<(bool, &[u8])>
     ensures value { option_map (λ e. (e.0, e.1.now)) result ≡ exponent_of text.now }
     ensures all { IfSome result (λ e. AllDigits 10 e.1.now) }
 {
     match text {
         [] => Some((false, text)),
+        _ => written_exponent(text),
+    }
+}
+
+// The sign and the digits of an exponent that is written.
+#[inline(never)]
+fn written_exponent(text: &[u8]) -> Option<(bool, &[u8])>
+    requires { text.now ≢ [] }
+    ensures value { option_map (λ e. (e.0, e.1.now)) result ≡ exponent_of text.now }
+    ensures all { IfSome result (λ e. AllDigits 10 e.1.now) }
+{
+    match text {
         [b'e' | b'E', rest @ ..] => {
             let (lowers, digits) = split_sign(rest);
             if !digits.is_empty() && all_digits(digits) {
@@ -100,6 +117,7 @@ fn exponent_parts(text: &[u8]) -> Option<(bool, &[u8])>
 }
 
 // The parts of a number text, or none if the text spells no numeral.
+#[inline(always)]
 pub fn parts_of(text: &[u8]) -> Option<Parts<'_>>
     ensures value { option_map numeral_in result ≡ numeral_of text.now }
     ensures whole { IfSome result (λ p. AllDigits 10 p.whole.now) }

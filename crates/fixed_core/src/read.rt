@@ -1,6 +1,7 @@
 //! Reading a number text.
 
-ghost use Rattle.std.specs.Prelude.{◌≡◌, ℕ, ◌+◌, ◌*◌, ◌%◌, ◌^◌, ◌<◌, ◌≤◌, ◌++◌, min, if◌then◌else◌};
+ghost use Rattle.std.specs.Prelude.{◌≡◌, ℕ, ◌+◌, ◌*◌, ◌%◌, ◌^◌, ◌<◌, ◌≤◌, ◌++◌, length, min};
+ghost use Rattle.std.specs.Prelude.{if◌then◌else◌};
 ghost use Rattle.std.specs.Str.Parse.{AllDigits, digits_value};
 ghost use Rattle.fixed_core.specs.Mantissa.{IsMantissa};
 ghost use Rattle.fixed_core.specs.Reads.{ReadsAs};
@@ -23,6 +24,7 @@ const SHORT_DIGITS: usize = 19;
 
 /// The number of a text, or the first fault that holds of it. Sign, mantissa and exponent may have
 /// any number of digits: only the value counts. Takes no memory.
+#[inline(always)]
 pub fn read_fixed(text: &str) -> Result<Fixed, FixedFault>
     ensures answer { result ≡ fixed_of text.now }
     ensures meaning { ReadsAs text.now result }
@@ -37,16 +39,45 @@ pub fn read_fixed(text: &str) -> Result<Fixed, FixedFault>
     {
         return short_fixed(parts.negative, parts.low, scale);
     }
-    fixed_from(
+    long_fixed(
         parts.negative,
-        mantissa_of(parts.whole, parts.fraction, parts.low),
+        parts.whole,
+        parts.fraction,
+        parts.low,
         parts.lowers,
-        capped_value(parts.exponent),
-        scale as u128,
+        parts.exponent,
+    )
+}
+
+// The number of parts of any length. Most texts are short, so this is kept out of `read_fixed`.
+#[inline(never)]
+fn long_fixed(
+    negative: bool,
+    whole: &[u8],
+    fraction: &[u8],
+    low: u64,
+    lowers: bool,
+    exponent: &[u8],
+) -> Result<Fixed, FixedFault>
+    requires whole { AllDigits 10 whole.now }
+    requires fraction { AllDigits 10 fraction.now }
+    requires exponent { AllDigits 10 exponent.now }
+    requires low { low ≡ digits_value 10 (whole.now ++ fraction.now) % 2 ^ 64 }
+    ensures { let n = digits_value 10 (whole.now ++ fraction.now) in let e = digits_value 10 exponent.now in
+        result ≡ fixed_quotient negative (n * 10 ^ (18 + (if lowers then 0 else e)))
+        (10 ^ (length fraction.now + (if lowers then e else 0))) }
+{
+    fixed_from(
+        negative,
+        mantissa_of(whole, fraction, low),
+        lowers,
+        capped_value(exponent),
+        fraction.len() as u128,
     )
 }
 
 // The number of few digits, of which so many are after the point. There is no exponent.
+#[inline(always)]
 fn short_fixed(negative: bool, digits: u64, scale: usize) -> Result<Fixed, FixedFault>
     requires { scale ≤ 18 }
     ensures { result ≡ fixed_quotient negative (digits * 10 ^ 18) (10 ^ scale) }

@@ -1,8 +1,7 @@
 -- The weight of a set, weight by weight.
-use Rattle.std.proofs.Common.{◌≡◌, ℕ, zero, suc, ◌+◌, ◌-◌, ◌/◌, ◌%◌, ◌^◌, ◌<◌, ◌≤◌, ◌==◌, Bool, true, false, if◌then◌else◌, ℤ, pos, negsuc, List, [], ◌∷◌, length, get_or, drop, refl, sym, ap, ◌∙◌, arith}
-use Rattle.std.specs.Prelude.{◌+ℤ◌, int_lt, unsigned_abs, All, bit_and}
+use Rattle.std.proofs.Common.{◌≡◌, ℕ, ◌+◌, ◌/◌, ◌%◌, ◌<◌, ◌≤◌, ◌==◌, Bool, true, false, if◌then◌else◌, ℤ, pos, negsuc, List, [], ◌∷◌, length, get_or, drop, refl, sym, ap, ◌∙◌, arith}
+use Rattle.std.specs.Prelude.{◌+ℤ◌, int_lt, unsigned_abs, All}
 use Rattle.std.proofs.lemmas.List.{at_drop_all, at_drop_more}
-use Rattle.std.proofs.lemmas.Nat.{and_le_r, and_mask}
 use Rattle.std.proofs.lemmas.List.Elements.{All-head, All-tail}
 use Rattle.sorting_rule.specs.Coalition.{weight_of}
 
@@ -42,9 +41,3 @@ pub magnitude-more : (ws : List ℤ) (set i : ℕ) (w : ℤ) → i < length ws �
     → magnitude_of (drop i ws) set ≡ (if set % 2 == 1 then unsigned_abs w else 0) + magnitude_of (drop (i + 1) ws) (set / 2)
 magnitude-more ws set i w within is =
     at_drop_more (λ (xs : List ℤ). magnitude_of xs set) ws i w within ∙ ap (λ x. magnitude_of (x ∷ drop (i + 1) ws) set) (sym is)
-
--- a number masked by all bits or by none
-pub masked : (m b : ℕ) → b < 2 → m ≤ 10 ^ 36 → bit_and m ((0 + (2 ^ 128 - b)) % 2 ^ 128) ≡ (if b == 1 then m else 0)
-masked m zero h small = let none : bit_and m 0 ≤ 0 = and_le_r m 0 in omega (arith, none)
-masked m (suc zero) h small = let whole : m % 2 ^ 128 ≡ m = omega arith in and_mask m 128 ∙ whole
-masked m (suc (suc b)) h small = absurd (omega arith)

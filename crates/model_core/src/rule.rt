@@ -52,21 +52,23 @@ pub fn accepted(problem: &Problem, model: &Model, h: u32, grades: &[Grade]) -> u
     accepted_at(problem, model, h - 1, grades)
 }
 
-/// The units of a number without the sign.
+/// The units of a number that is not negative.
 fn magnitude(number: Fixed) -> u128
+    requires { int_lt number (pos 0) ≡ false }
     ensures value { result ≡ unsigned_abs number }
     ensures bound { result ≤ 10 ^ 36 }
 {
-    number.units().unsigned_abs()
+    number.units() as u128
 }
 
-/// What the first criterion of a set adds to the set's weight. A mask of all bits or none costs less than a product, and
-/// less than a branch that no processor can foresee.
+/// What the first criterion of a set adds to the set's weight. A product costs less than a branch that no processor
+/// can foresee.
 fn counted(weight: Fixed, set: u32) -> u128
+    requires { int_lt weight (pos 0) ≡ false }
     ensures value { result ≡ (if set % 2 == 1 then unsigned_abs weight else 0) }
     ensures bound { result ≤ 10 ^ 36 }
 {
-    magnitude(weight) & 0u128.wrapping_sub(u128::from(set % 2))
+    magnitude(weight) * u128::from(set % 2)
 }
 
 /// The weight of a set, in units of 10^-18.

@@ -5,6 +5,7 @@ pub mod ReadFacts
 pub mod SearchFacts
 pub mod NameFacts
 pub mod PieceFacts
+pub mod PlainFacts
 pub mod WrittenFacts
 pub mod RowFacts
 pub mod RowsFacts

@@ -1,11 +1,13 @@
 //! Tables of alternatives: their rows read, and written as records.
 #![tactic(auto)]
 
+mod cells;
 mod classified;
 mod example_list;
 mod fault;
 mod header;
 mod leading;
+mod plain;
 mod put;
 mod records;
 mod row;

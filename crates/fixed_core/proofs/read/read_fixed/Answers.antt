@@ -1,4 +1,4 @@
-use Rattle.std.proofs.Common.{◌≡◌, ◌+◌, ◌≤◌, ◌*◌, ◌^◌, ◌++◌, [], length, sym, ap, ◌∙◌, Some, arith}
+use Rattle.std.proofs.Common.{◌≡◌, ◌+◌, ◌≤◌, ◌*◌, ◌^◌, ◌++◌, [], length, sym, ap, ◌∙◌, Some}
 use Rattle.std.specs.Str.Parse.{digits_value}
 use Rattle.std.proofs.lemmas.Bool.{eqb-true}
 use Rattle.fixed_core.specs.Numeral.{numeral_of}
@@ -18,10 +18,9 @@ pub returns : goal.returns
 returns c =
     let p = c.in-Some.parts in
     let number : numeral_of c.args.text.now ≡ Some (numeral_in p) = rw c.as_bytes.ensures.value at (sym c.in-Some.ensures.value) in
-    let answer : c.fixed_from.result ≡ fixed_of c.args.text.now =
-    c.fixed_from.ensures _ (digits_value 10 p.exponent.now) c.mantissa_of.ensures.tracks c.capped_value.ensures
-    ∙ sym (fixed-numeral c.args.text.now (numeral_in p) number ∙ fixed-quotient (numeral_in p)) in
-    record { answer = answer; meaning = answer_reads c.args.text.now c.fixed_from.result answer }
+    let answer : c.long_fixed.result ≡ fixed_of c.args.text.now =
+    c.long_fixed.ensures ∙ sym (fixed-numeral c.args.text.now (numeral_in p) number ∙ fixed-quotient (numeral_in p)) in
+    record { answer = answer; meaning = answer_reads c.args.text.now c.long_fixed.result answer }
 
 pub returns-then-parts-scale-le-SHORT_DIGITS : goal.returns-then-parts-scale-le-SHORT_DIGITS
 returns-then-parts-scale-le-SHORT_DIGITS c =

@@ -1,8 +1,8 @@
-use Rattle.std.proofs.Common.{◌++◌, ◌∷◌, []}
+use Rattle.std.proofs.Common.{◌∷◌, []}
 use Rattle.std.specs.List.{flat_map}
 use Rattle.table_core.specs.Written.{field_text, next_text}
 use Rattle.table_core.proofs.WrittenFacts.{record_text-between, appended}
-use Rattle.table_core.proofs.put.push_record.Goals as goal
+use Rattle.table_core.proofs.plain.push_record.Goals as goal
 
 pub returns-clause-whole : goal.returns-clause-whole
 returns-clause-whole g c =
