@@ -1,15 +1,18 @@
 //! Learning.
-ghost use Rattle.std.specs.Prelude.{◌≡◌, ◌≤◌, IfOk, IfErr, OnOk};
+ghost use Rattle.std.specs.Prelude.{◌≡◌, ◌≤◌, Bool, List, All, IfOk, IfErr, OnOk};
 ghost use Rattle.sorting_rule.specs.Examples.{HasNoModel};
 ghost use Rattle.sorting_rule.specs.Rebuilt.{Learns};
+ghost use Rattle.literals_core.specs.DistinctVariables.{HasDistinctVariables};
 ghost use Rattle.literals_core.specs.Values.{IsUnsatisfiable};
 ghost use Rattle.chain_core.specs.Log.{IsRefutation};
 ghost use Rattle.table_core.specs.Examples.{BelongTo};
 ghost use Rattle.encoding_rules.specs.Encodings.{formula_of, HasFormula};
-ghost use Rattle.ranks_core.specs.Ranks.{task_of};
+ghost use Rattle.ranks_core.specs.Ranks.{task_of, AreRanks};
 ghost use Rattle.model_core.specs.Model.{rule_of, Belongs};
 ghost use Rattle.search_core.specs.Bounds.{PropagationEnds};
-ghost use Rattle.search_core.specs.Outcomes.{IsAtLimit, IsShortRefutation};
+ghost use Rattle.search_core.specs.Outcomes.{IsModel, IsAtLimit, IsShortRefutation};
+ghost use Rattle.search_core.specs.Values.{value_at};
+ghost use Rattle.learn_core.specs.Satisfies.{SatisfiesOne};
 ghost use Rattle.learn_core.specs.Learning.{IfFound, IfRefuted, IfLimit, LearnFaultOf};
 
 use crate::rebuilding::rebuild;
@@ -46,6 +49,43 @@ fn accept(alloc: Global, formula: &Formula, log: Log) -> Result<Accepted, AllocE
     }
 }
 
+/// Searches the formula of the examples, with at most `most` lemmas. Makes a model of the values that satisfy it, and
+/// has a refutation accepted.
+fn answer_of(
+    alloc: Global,
+    problem: &Problem,
+    examples: &Examples,
+    ranks: &Ranks,
+    formula: &Formula,
+    most: u64,
+) -> Result<Answer, AllocError>
+    requires belong { BelongTo problem.now examples.now }
+    requires ranks { AreRanks (task_of problem.now examples.now) ranks.now }
+    requires least { 1 ≤ most }
+    requires limit { most ≤ 1000000 }
+    requires apart { All HasDistinctVariables formula.now.clauses }
+    requires sat { (values : List Bool) → IsModel formula.now values
+        → SatisfiesOne (task_of problem.now examples.now) (value_at values) }
+    requires unsat { let task = task_of problem.now examples.now in
+        IsUnsatisfiable formula.now → HasNoModel task.directions task.categories task.examples }
+    ensures found { IfOk result (IfFound (λ m. Learns examples.now (rule_of problem.now m))) }
+    ensures belongs { IfOk result (IfFound (Belongs problem.now)) }
+    ensures refuted { IfOk result (IfRefuted (IsShortRefutation formula.now most)) }
+    ensures no_model { let task = task_of problem.now examples.now in
+        IfOk result (IfRefuted (λ _. HasNoModel task.directions task.categories task.examples)) }
+    ensures at_limit { IfOk result (IfLimit (IsAtLimit formula.now most)) }
+    ensures undecided { IfOk result (IfLimit (λ _. ¬ PropagationEnds formula.now)) }
+{
+    match search(alloc, formula, most)? {
+        Outcome::Sat(values) => {
+            let model = rebuild(alloc, problem, examples, ranks, &values)?;
+            Ok(Answer::Found(model))
+        }
+        Outcome::Unsat(log) => Ok(Answer::Refuted(accept(alloc, formula, log)?)),
+        Outcome::Limit(log) => Ok(Answer::Limit(log)),
+    }
+}
+
 /// Looks for a model that restores the examples, with at most `most` lemmas of search.
 ///
 /// `Found` has a model that belongs to the problem, is in rebuilt form, and restores the examples. `Refuted` has a
@@ -79,12 +119,5 @@ pub fn learn(
 {
     let ranks = Ranks::of(alloc, problem, examples)?;
     let formula = encode(alloc, encoding, problem, examples, &ranks)?;
-    match search(alloc, &formula, most)? {
-        Outcome::Sat(values) => {
-            let model = rebuild(alloc, problem, examples, &ranks, &values)?;
-            Ok(Answer::Found(model))
-        }
-        Outcome::Unsat(log) => Ok(Answer::Refuted(accept(alloc, &formula, log)?)),
-        Outcome::Limit(log) => Ok(Answer::Limit(log)),
-    }
+    Ok(answer_of(alloc, problem, examples, &ranks, &formula, most)?)
 }

@@ -88,23 +88,3 @@ impl<T: Copy> Rows<T> {
         self.items.swap(start + i, start + j);
     }
 }
-
-#[cfg(test)]
-mod tests {
-    use super::*;
-    use std::test::Fail;
-
-    #[test]
-    fn rows_are_kept_apart(rt: HostRuntime) -> Result<(), Fail> {
-        let mut rows = Rows::new(rt.alloc());
-        rows.push(&[1u8, 2, 3])?;
-        rows.push(&[])?;
-        rows.push(&[4, 5])?;
-        rows.swap(2, 0, 1);
-        assert_eq!(rt; rows.count(), 3);
-        assert_eq!(rt; rows.row(0), &[1u8, 2, 3][..]);
-        assert_eq!(rt; rows.row(1), &[][..]);
-        assert_eq!(rt; rows.row(2), &[5u8, 4][..]);
-        Ok(())
-    }
-}

@@ -1,5 +1,5 @@
-//! Fields that need no quotes, appended in the room that a text has. Most fields are of this kind. A text comes and goes by
-//! value, so that its length can be in a register. `Err` has the text with a part of what was to be appended.
+//! Fields that need no quotes, appended in the room that a text has. Most fields are of this kind. A text comes and goes
+//! by value, so that its length can be in a register. `Err` has the text with a part of what was to be appended.
 ghost use Rattle.std.specs.Prelude.{◌≡◌, ◌==◌, ℕ, List, [], ◌∷◌, ◌++◌, true, false, ◌+◌, ◌<◌, ◌≤◌, length};
 ghost use Rattle.std.specs.Prelude.{slice_index_or, vec_len, vec_capacity, IfOk, IfErr, OnErr, OnOk};
 ghost use Rattle.std.specs.List.{flat_map, list_any};

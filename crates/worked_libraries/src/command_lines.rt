@@ -2,16 +2,28 @@
 
 use line_core::{Job, LineFault, read_line};
 use literals_core::Encoding;
+use std::alloc::{AllocError, Global};
 use std::test::Fail;
 
-fn words_of(rt: HostRuntime, line: &str) -> Result<Vec<String>, Fail> {
-    let mut words = Vec::new(rt.alloc());
+/// The words of a line.
+fn words_of(alloc: Global, line: &str) -> Result<Vec<String>, AllocError> {
+    let mut words = Vec::new(alloc);
     for word in line.split(' ') {
         if !word.is_empty() {
-            words.push(String::from_str(rt.alloc(), word)?)?;
+            words.push(String::from_str(alloc, word)?)?;
         }
     }
     Ok(words)
+}
+
+/// Whether a line is read as this job or this fault.
+fn reads_as(
+    alloc: Global,
+    line: &str,
+    want: Result<Job<'_>, LineFault>,
+) -> Result<bool, AllocError> {
+    let words = words_of(alloc, line)?;
+    Ok(read_line(&words) == want)
 }
 
 #[test]
@@ -32,8 +44,7 @@ fn a_line_begins_with_a_command(rt: HostRuntime) -> Result<(), Fail> {
         ("classify --x P", Err(LineFault::UnknownOption(2))),
         ("classify --encoding", Err(LineFault::UnknownOption(2))),
     ] {
-        let words = words_of(rt, line)?;
-        assert!(rt; read_line(&words) == want, "{line}");
+        assert!(rt; reads_as(rt.alloc(), line, want)?, "{line}");
     }
     Ok(())
 }
@@ -133,8 +144,7 @@ fn words_after_a_command_give_its_job_or_their_first_fault(rt: HostRuntime) -> R
         ),
         ("rehearse 1 2 3 4 5", Err(LineFault::Extra(6))),
     ] {
-        let words = words_of(rt, line)?;
-        assert!(rt; read_line(&words) == want, "{line}");
+        assert!(rt; reads_as(rt.alloc(), line, want)?, "{line}");
     }
     Ok(())
 }

@@ -82,6 +82,29 @@ fn model_of(alloc: Global, problem: &Problem, text: &str) -> Result<Model, Fail>
     Ok(read_model(alloc, problem, &tree_of(alloc, text)?)?)
 }
 
+/// The model that a seed draws for a problem.
+fn drawn_model(alloc: Global, problem: &Problem, seed: u64) -> Result<Model, AllocError>
+    ensures { IfOk result (λ m. Belongs problem.now m) }
+{
+    draw_model(alloc, problem, seed)
+}
+
+/// The table of rows that a seed draws for a problem and its model.
+fn rows_text(
+    alloc: Global,
+    problem: &Problem,
+    model: &Model,
+    rows: u32,
+    seed: u64,
+) -> Result<Vec<u8>, AllocError>
+    requires belongs { Belongs problem.now model.now }
+    requires rows { rows ≤ 100 }
+{
+    let mut text = Vec::new(alloc);
+    draw_table(alloc, problem, model, rows, seed, &mut text)?;
+    Ok(text)
+}
+
 /// A problem of a seed, a model of the next one, and a table of rows of the one after it.
 fn drawn_text(
     alloc: Global,
@@ -89,7 +112,7 @@ fn drawn_text(
     categories: u32,
     rows: u32,
     seed: u64,
-) -> Result<Vec<u8>, Fail>
+) -> Result<Vec<u8>, AllocError>
     requires criteria { 1 ≤ criteria }
     requires few { criteria ≤ 16 }
     requires categories { 2 ≤ categories }
@@ -98,10 +121,8 @@ fn drawn_text(
     requires seed { seed ≤ 1000000 }
 {
     let problem = draw_problem(alloc, criteria, categories, seed)?;
-    let model = draw_model(alloc, &problem, seed + 1)?;
-    let mut text = Vec::new(alloc);
-    draw_table(alloc, &problem, &model, rows, seed + 2, &mut text)?;
-    Ok(text)
+    let model = drawn_model(alloc, &problem, seed + 1)?;
+    rows_text(alloc, &problem, &model, rows, seed + 2)
 }
 
 /// The table of rows that a seed draws for a problem, and for a model of another seed.
@@ -115,10 +136,8 @@ fn table_text(
     requires { rows ≤ 100 }
 {
     let problem = problem_of(alloc, problem)?;
-    let model = draw_model(alloc, &problem, model_seed)?;
-    let mut text = Vec::new(alloc);
-    draw_table(alloc, &problem, &model, rows, seed, &mut text)?;
-    Ok(text)
+    let model = drawn_model(alloc, &problem, model_seed)?;
+    Ok(rows_text(alloc, &problem, &model, rows, seed)?)
 }
 
 /// Which of the four scales that are drawn a scale is.
@@ -227,9 +246,14 @@ fn seeds_have_their_words(rt: HostRuntime) -> Result<(), Fail> {
     Ok(())
 }
 
+/// The kinds of the sixteen scales that seed 2024 draws.
+fn sixteen_kinds(alloc: Global) -> Result<Vec<Kind>, AllocError> {
+    let problem = draw_problem(alloc, 16, 10, 2024)?;
+    kinds_of(alloc, &problem)
+}
+
 #[test]
 fn a_problem_has_a_scale_for_each_word(rt: HostRuntime) -> Result<(), Fail> {
-    let problem = draw_problem(rt.alloc(), 16, 10, 2024)?;
     let kinds = [
         Kind::Rising,
         Kind::Falling,
@@ -248,14 +272,19 @@ fn a_problem_has_a_scale_for_each_word(rt: HostRuntime) -> Result<(), Fail> {
         Kind::Names,
         Kind::Names,
     ];
-    assert!(rt; kinds_of(rt.alloc(), &problem)?.as_slice() == &kinds[..]);
+    assert!(rt; sixteen_kinds(rt.alloc())?.as_slice() == &kinds[..]);
     Ok(())
+}
+
+/// The problem of four criteria and three categories that seed 41 draws.
+fn problem_of_four(alloc: Global) -> Result<Problem, AllocError> {
+    draw_problem(alloc, 4, 3, 41)
 }
 
 #[test]
 fn a_model_has_thresholds_in_order_and_weights_rounded_up(rt: HostRuntime) -> Result<(), Fail> {
-    let problem = draw_problem(rt.alloc(), 4, 3, 41)?;
-    let model = draw_model(rt.alloc(), &problem, 42)?;
+    let problem = problem_of_four(rt.alloc())?;
+    let model = drawn_model(rt.alloc(), &problem, 42)?;
     let thresholds = [
         567000000000000000i128,
         896000000000000000,
@@ -332,22 +361,31 @@ fn the_widest_scales_are_drawn_from(rt: HostRuntime) -> Result<(), Fail> {
     Ok(())
 }
 
+/// The table of two rows that seed 9 draws for the problem of one number and its model.
+fn text_of_fives(alloc: Global) -> Result<Vec<u8>, Fail> {
+    let problem = problem_of(alloc, FIVE)?;
+    let model = model_of(alloc, &problem, AT_LEAST_FIVE)?;
+    Ok(rows_text(alloc, &problem, &model, 2, 9)?)
+}
+
 #[test]
 fn a_scale_of_one_number_has_one_cell(rt: HostRuntime) -> Result<(), Fail> {
-    let problem = problem_of(rt.alloc(), FIVE)?;
-    let model = model_of(rt.alloc(), &problem, AT_LEAST_FIVE)?;
-    let mut text = Vec::new(rt.alloc());
-    draw_table(rt.alloc(), &problem, &model, 2, 9, &mut text)?;
+    let text = text_of_fives(rt.alloc())?;
     let want = "name,Speed,category\nAlternative 1,5,Good\nAlternative 2,5,Good\n";
     assert!(rt; text.as_slice() == want.as_bytes());
     Ok(())
 }
 
+/// The numbers of the six examples that seed 43 draws for the problem of four criteria and the model of seed 42.
+fn numbers_of_six(alloc: Global) -> Result<Vec<i128>, AllocError> {
+    let problem = problem_of_four(alloc)?;
+    let model = drawn_model(alloc, &problem, 42)?;
+    let examples = draw_examples(alloc, &problem, &model, 6, 43)?;
+    numbers_of(alloc, &examples)
+}
+
 #[test]
 fn examples_are_the_rows_of_the_table(rt: HostRuntime) -> Result<(), Fail> {
-    let problem = draw_problem(rt.alloc(), 4, 3, 41)?;
-    let model = draw_model(rt.alloc(), &problem, 42)?;
-    let examples = draw_examples(rt.alloc(), &problem, &model, 6, 43)?;
     let numbers = [
         521000000000000000i128,
         91000000000000000000,
@@ -380,6 +418,6 @@ fn examples_are_the_rows_of_the_table(rt: HostRuntime) -> Result<(), Fail> {
         345000000000000000,
         2,
     ];
-    assert!(rt; numbers_of(rt.alloc(), &examples)?.as_slice() == &numbers[..]);
+    assert!(rt; numbers_of_six(rt.alloc())?.as_slice() == &numbers[..]);
     Ok(())
 }

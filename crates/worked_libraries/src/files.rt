@@ -1,11 +1,12 @@
-//! Problems and tables from their texts.
+//! Problems, tables and examples from their texts.
 ghost use Rattle.std.specs.Prelude.{IfOk};
+ghost use Rattle.table_core.specs.Examples.{BelongTo};
 ghost use Rattle.table_core.specs.Table.{IsTableOf};
 
 use problem_core::{Problem, read_problem};
 use std::alloc::Global;
 use std::test::Fail;
-use table_core::{Table, TableFault};
+use table_core::{Examples, Table, TableFault, examples};
 use yaml_core::{MOST_BYTES, Node, read_yaml};
 
 /// One criterion of whole numbers from 0 to 10, the greater the better, and two categories.
@@ -46,4 +47,12 @@ pub fn table_of(alloc: Global, problem: &Problem, text: &str) -> Result<Table, T
         return Err(TableFault::NoMemory);
     }
     Table::open(alloc, problem, bytes)
+}
+
+/// The examples of a text.
+pub fn examples_of(alloc: Global, problem: &Problem, text: &str) -> Result<Examples, Fail>
+    ensures { IfOk result (BelongTo problem.now) }
+{
+    let table = table_of(alloc, problem, text)?;
+    Ok(examples(alloc, problem, table)?)
 }

@@ -4,7 +4,7 @@ use chain_core::put_dimacs;
 use encoders_core::{Encoding, encode};
 use problem_core::{Grade, Problem};
 use ranks_core::{EncodeFault, Ranks, fits_problem};
-use std::alloc::Global;
+use std::alloc::{AllocError, Global};
 use std::test::Fail;
 use table_core::Examples;
 
@@ -40,34 +40,56 @@ fn text(
     Ok(out)
 }
 
-#[test]
-fn worse_on_each_criterion_in_the_better_category(rt: HostRuntime) -> Result<(), Fail> {
-    let alloc = rt.alloc();
-    let problem = problem_of_criteria(alloc, 2)?;
+/// Two examples, of which the worse one is in the better category.
+fn crossed(alloc: Global) -> Result<Examples, AllocError> {
     let mut examples = Examples::empty(alloc);
     examples.push(&[Grade::place(1), Grade::place(0)], 1)?;
     examples.push(&[Grade::place(1), Grade::place(1)], 0)?;
-    let separation = text(alloc, Encoding::Separation, &problem, &examples)?;
+    Ok(examples)
+}
+
+/// The text of the formula of these two examples.
+fn crossed_text(alloc: Global, encoding: Encoding) -> Result<Vec<u8>, Fail> {
+    let problem = problem_of_criteria(alloc, 2)?;
+    let examples = crossed(alloc)?;
+    Ok(text(alloc, encoding, &problem, &examples)?)
+}
+
+#[test]
+fn worse_on_each_criterion_in_the_better_category(rt: HostRuntime) -> Result<(), Fail> {
+    let separation = crossed_text(rt.alloc(), Encoding::Separation)?;
     let clauses = "p cnf 5 6\n-2 3 0\n-4 1 0\n-4 -1 0\n-5 2 0\n-5 -3 0\n4 5 0\n";
     assert_eq!(rt; separation.as_slice(), clauses.as_bytes());
-    let coalitions = text(alloc, Encoding::Coalitions, &problem, &examples)?;
+    let coalitions = crossed_text(rt.alloc(), Encoding::Coalitions)?;
     let clauses =
         "p cnf 7 13\n-2 3 0\n-4 5 0\n-4 6 0\n-5 7 0\n-6 7 0\n-4 0\n-1 -5 0\n-3 -6 0\n-1 -3 -7 0\n7 0\n1 6 0\n2 5 0\n1 2 4 0\n";
     assert_eq!(rt; coalitions.as_slice(), clauses.as_bytes());
     Ok(())
 }
 
-#[test]
-fn thirteen_criteria_are_too_many_for_coalitions_alone(rt: HostRuntime) -> Result<(), Fail> {
-    let alloc = rt.alloc();
-    let problem = problem_of_criteria(alloc, 13)?;
+/// One example of thirteen grades.
+fn thirteen(alloc: Global) -> Result<Examples, AllocError> {
     let mut examples = Examples::empty(alloc);
     examples.push(&[Grade::place(0); 13], 1)?;
-    assert_eq!(rt;
-        text(alloc, Encoding::Separation, &problem, &examples)?.as_slice(),
-        "p cnf 13 0\n".as_bytes()
-    );
-    let wide = text(alloc, Encoding::Coalitions, &problem, &examples);
-    assert!(rt; matches!(wide, Err(EncodeFault::Wide)));
+    Ok(examples)
+}
+
+/// The text of the formula of this one example; nothing if its criteria are too many.
+fn text_of_thirteen(alloc: Global, encoding: Encoding) -> Result<Option<Vec<u8>>, Fail> {
+    let problem = problem_of_criteria(alloc, 13)?;
+    let examples = thirteen(alloc)?;
+    match text(alloc, encoding, &problem, &examples) {
+        Ok(text) => Ok(Some(text)),
+        Err(EncodeFault::Wide) => Ok(None),
+        Err(fault) => Err(fault.into()),
+    }
+}
+
+#[test]
+fn thirteen_criteria_are_too_many_for_coalitions_alone(rt: HostRuntime) -> Result<(), Fail> {
+    let narrow = text_of_thirteen(rt.alloc(), Encoding::Separation)?.ok_or("too wide")?;
+    assert_eq!(rt; narrow.as_slice(), "p cnf 13 0\n".as_bytes());
+    let wide = text_of_thirteen(rt.alloc(), Encoding::Coalitions)?;
+    assert!(rt; wide.is_none());
     Ok(())
 }

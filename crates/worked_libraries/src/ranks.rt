@@ -46,17 +46,26 @@ fn first_ranks(alloc: Global, problem: &Problem, examples: &Examples) -> Option<
     Some((ranks.count(0), places))
 }
 
-#[test]
-fn the_less_the_better_with_a_tie(rt: HostRuntime) -> Result<(), Fail> {
-    let alloc = rt.alloc();
-    let problem = problem_of(alloc, PRICE)?;
+/// Four examples, two of the same price.
+fn four_prices(alloc: Global) -> Result<Examples, AllocError> {
     let mut examples = Examples::empty(alloc);
     examples.push(&[Grade::place(5)], 0)?;
     examples.push(&[Grade::place(3)], 1)?;
     examples.push(&[Grade::place(7)], 0)?;
     examples.push(&[Grade::place(3)], 1)?;
-    let (count, places) = first_ranks(alloc, &problem, &examples).ok_or("no ranks")?;
-    assert_eq!(rt; count, 3);
-    assert_eq!(rt; places.as_slice(), &[1u32, 2, 0, 2][..]);
+    Ok(examples)
+}
+
+/// The number of distinct prices, and the places of the four.
+fn ranked_prices(alloc: Global) -> Result<(u32, Vec<u32>), Fail> {
+    let problem = problem_of(alloc, PRICE)?;
+    let examples = four_prices(alloc)?;
+    Ok(first_ranks(alloc, &problem, &examples).ok_or("no ranks")?)
+}
+
+#[test]
+fn the_less_the_better_with_a_tie(rt: HostRuntime) -> Result<(), Fail> {
+    let (count, places) = ranked_prices(rt.alloc())?;
+    assert_eq!(rt; (count, places.as_slice()), (3, &[1u32, 2, 0, 2][..]));
     Ok(())
 }

@@ -1,11 +1,11 @@
 //! What no clause says: that tables are read and written with ample memory.
 ghost use Rattle.table_core.specs.Table.{IsTableOf};
 
-use crate::files::{SPEED, problem_of, table_of};
+use crate::files::{SPEED, examples_of, problem_of, table_of};
 use problem_core::Problem;
-use std::alloc::Global;
+use std::alloc::{AllocError, Global};
 use std::test::Fail;
-use table_core::{Table, examples, put_header, put_row};
+use table_core::{Table, put_header, put_row};
 
 /// Appends the next row with the category Good, by each of the two ways to do so.
 fn put_two(
@@ -24,21 +24,36 @@ fn put_two(
     Ok(())
 }
 
+/// The header of a problem's tables.
+fn header_of(alloc: Global, problem: &Problem) -> Result<Vec<u8>, AllocError> {
+    let mut out = Vec::new(alloc);
+    put_header(alloc, problem, &mut out)?;
+    Ok(out)
+}
+
+/// Appends the first two rows of a text.
+fn put_first_two(
+    alloc: Global,
+    problem: &Problem,
+    text: &str,
+    out: &mut Vec<u8>,
+) -> Result<(), Fail> {
+    let mut table = table_of(alloc, problem, text)?;
+    put_two(alloc, problem, &mut table, out)
+}
+
 /// The header and the first two rows of a text as they are written.
 fn written(alloc: Global, text: &str) -> Result<Vec<u8>, Fail> {
     let problem = problem_of(alloc, SPEED)?;
-    let mut table = table_of(alloc, &problem, text)?;
-    let mut out = Vec::new(alloc);
-    put_header(alloc, &problem, &mut out)?;
-    put_two(alloc, &problem, &mut table, &mut out)?;
+    let mut out = header_of(alloc, &problem)?;
+    put_first_two(alloc, &problem, text, &mut out)?;
     Ok(out)
 }
 
 /// The category of the last of the examples of a text, of which there are two.
 fn second_of_two(alloc: Global, text: &str) -> Result<u32, Fail> {
     let problem = problem_of(alloc, SPEED)?;
-    let table = table_of(alloc, &problem, text)?;
-    let two = examples(alloc, &problem, table)?;
+    let two = examples_of(alloc, &problem, text)?;
     if two.count() == 2 {
         Ok(two.category(1))
     } else {

@@ -1,6 +1,8 @@
 //! Worked rows of `classify`.
-use crate::session::{MODEL, PROBLEM, PROBLEM_OF_THREE, ends_with, model};
+use crate::session::{MODEL, PROBLEM, PROBLEM_OF_THREE, edited, ends_with, model};
 use lincs_top::Status;
+use std::alloc::{AllocError, Global};
+use std::process::Abort;
 use std::test::Fail;
 
 #[test]
@@ -186,12 +188,10 @@ sufficient_coalitions:
     )
 }
 
-#[test]
-fn weights_that_sum_to_exactly_1_are_enough_and_null_accepts_nothing(
-    rt: HostRuntime,
-) -> Result<(), Fail> {
+/// A problem of three criteria.
+fn problem_of_three_criteria(alloc: Global) -> Result<String, AllocError> {
     let criterion = "    value_type: integer\n    preference_direction: increasing\n";
-    let problem = format!(in rt.alloc();
+    format!(in alloc;
         "kind: classification-problem
 format_version: 1
 criteria:
@@ -199,24 +199,37 @@ criteria:
   - name: Bad
   - name: Good
 "
-    )?;
-    let coalitions = "  - kind: thresholds\n    thresholds: [7]
-  - kind: thresholds\n    thresholds: [7]
-sufficient_coalitions:
-  - kind: weights\n    criterion_weights: [0.3, 0.3, 0.4]
-";
-    let model = format!(in rt.alloc();
-        "kind: ncs-classification-model
+    )
+}
+
+/// Sorts two rows by a model of three criteria.
+fn sorts_two_rows(rt: &impl Abort, alloc: Global, model: &str, sorted: &str) -> Result<(), Fail> {
+    let problem = problem_of_three_criteria(alloc)?;
+    let table = "name,A,B,C\na,7,7,7\nb,7,7,6\n";
+    let files = (problem.as_str(), model, table);
+    ends_with(rt, alloc, files, (Status::Done, sorted, ""))
+}
+
+#[test]
+fn weights_that_sum_to_exactly_1_are_enough_and_null_accepts_nothing(
+    rt: HostRuntime,
+) -> Result<(), Fail> {
+    let model = "kind: ncs-classification-model
 format_version: 1
 accepted_values:
-  - kind: thresholds\n    thresholds: [7]\n{coalitions}"
-    )?;
-    let table = "name,A,B,C\na,7,7,7\nb,7,7,6\n";
+  - kind: thresholds
+    thresholds: [7]
+  - kind: thresholds
+    thresholds: [7]
+  - kind: thresholds
+    thresholds: [7]
+sufficient_coalitions:
+  - kind: weights
+    criterion_weights: [0.3, 0.3, 0.4]
+";
     let sorted = "name,A,B,C,category\na,7,7,7,Good\nb,7,7,6,Bad\n";
-    let files = (problem.as_str(), model.as_str(), table);
-    ends_with(&rt, rt.alloc(), files, (Status::Done, sorted, ""))?;
-    let null = crate::session::edited(&rt, rt.alloc(), model.as_str(), "[7]", "[null]")?;
+    sorts_two_rows(&rt, rt.alloc(), model, sorted)?;
+    let null = edited(&rt, rt.alloc(), model, "[7]", "[null]")?;
     let sorted = "name,A,B,C,category\na,7,7,7,Bad\nb,7,7,6,Bad\n";
-    let files = (problem.as_str(), null.as_str(), table);
-    ends_with(&rt, rt.alloc(), files, (Status::Done, sorted, ""))
+    sorts_two_rows(&rt, rt.alloc(), null.as_str(), sorted)
 }

@@ -1,6 +1,8 @@
 //! Worked rows of `encode` and `check-refutation`.
-use crate::session::{MODEL, PROBLEM, PROBLEM_OF_THREE, PROBLEM_OF_TWO, runs, shelf};
+use crate::session::{MODEL, PROBLEM, PROBLEM_OF_THREE, PROBLEM_OF_TWO, Want, runs, shelf};
 use lincs_top::Status;
+use std::alloc::Global;
+use std::process::Abort;
 use std::test::Fail;
 
 /// The worse of two rows is in the better category.
@@ -8,6 +10,21 @@ const WORSE_IS_GOOD: &str = "name,Speed,category\ng,3,Good\nb,7,Bad\n";
 
 /// Two rows with the same grade in two categories.
 const SAME_GRADE: &str = "name,Speed,category\na,5,Bad\nb,5,Good\n";
+
+/// Writes the formula of a table by this encoding.
+fn encodes(
+    rt: &impl Abort,
+    alloc: Global,
+    problem: &str,
+    table: &str,
+    encoding: &str,
+    formula: &str,
+) -> Result<(), Fail> {
+    let mut shelf = shelf(alloc, problem, MODEL, table)?;
+    let line = format!(in alloc; "encode P.yml A.csv --encoding {encoding}")?;
+    let want = (Status::Done, formula, "");
+    runs(rt, alloc, line.as_str(), &mut shelf, want)
+}
 
 #[test]
 fn the_formula_of_examples_is_written(rt: HostRuntime) -> Result<(), Fail> {
@@ -43,10 +60,7 @@ fn the_formula_of_examples_is_written(rt: HostRuntime) -> Result<(), Fail> {
             "p cnf 3 4\n-2 1 0\n-3 1 0\n-3 -2 0\n3 0\n",
         ),
     ] {
-        let mut shelf = shelf(rt.alloc(), problem, MODEL, table)?;
-        let line = format!(in rt.alloc(); "encode P.yml A.csv --encoding {encoding}")?;
-        let want = (Status::Done, formula, "");
-        runs(&rt, rt.alloc(), line.as_str(), &mut shelf, want)?;
+        encodes(&rt, rt.alloc(), problem, table, encoding, formula)?;
     }
     Ok(())
 }
@@ -69,10 +83,41 @@ fn a_formula_that_is_too_large_is_named_by_its_literals(rt: HostRuntime) -> Resu
     )
 }
 
+/// Judges a refutation of the formula of this table, from the text after its first word.
+fn judges(
+    rt: &impl Abort,
+    alloc: Global,
+    table: &str,
+    log: &str,
+    want: Want<'_>,
+) -> Result<(), Fail> {
+    let text = format!(in alloc; "lincs-refutation {log}")?;
+    let mut shelf = shelf(alloc, PROBLEM, MODEL, table)?;
+    shelf.add("R.txt", text.as_bytes())?;
+    let line = "check-refutation P.yml A.csv R.txt";
+    runs(rt, alloc, line, &mut shelf, want)
+}
+
+/// Judges a refutation with this second line. The error line of a rejection begins with its words.
+fn judges_second_line(
+    rt: &impl Abort,
+    alloc: Global,
+    second: &str,
+    want: Want<'_>,
+) -> Result<(), Fail> {
+    let (status, out, cause) = want;
+    let log = format!(in alloc; "1 separation\n{second}")?;
+    let cause = match status {
+        Status::No => format!(in alloc; "lincs: refutation rejected: {cause}")?,
+        _ => String::from_str(alloc, cause)?,
+    };
+    let want = (status, out, cause.as_str());
+    judges(rt, alloc, SAME_GRADE, log.as_str(), want)
+}
+
 // The second line of a refutation of the formula of the same grade in two categories.
 #[test]
 fn each_second_line_is_judged_by_its_first_fault(rt: HostRuntime) -> Result<(), Fail> {
-    let rejected = "lincs: refutation rejected: ";
     let refused = "lincs: R.txt: log 2 at line 2\n";
     for (second, status, out, cause) in [
         ("4 0 3 1 2 0\n", Status::Done, "accepted\n", ""),
@@ -89,16 +134,7 @@ fn each_second_line_is_judged_by_its_first_fault(rt: HostRuntime) -> Result<(), 
         ("4 0 3 1 2 0", Status::Refused, "", refused),
         ("4 0 3 1 2\n", Status::Refused, "", refused),
     ] {
-        let text = format!(in rt.alloc(); "lincs-refutation 1 separation\n{second}")?;
-        let mut shelf = shelf(rt.alloc(), PROBLEM, MODEL, SAME_GRADE)?;
-        shelf.add("R.txt", text.as_bytes())?;
-        let cause = match status {
-            Status::No => format!(in rt.alloc(); "{rejected}{cause}")?,
-            _ => String::from_str(rt.alloc(), cause)?,
-        };
-        let line = "check-refutation P.yml A.csv R.txt";
-        let want = (status, out, cause.as_str());
-        runs(&rt, rt.alloc(), line, &mut shelf, want)?;
+        judges_second_line(&rt, rt.alloc(), second, (status, out, cause))?;
     }
     Ok(())
 }
@@ -127,11 +163,7 @@ fn a_refutation_is_accepted_rejected_or_refused(rt: HostRuntime) -> Result<(), F
             (Status::Refused, "", "lincs: R.txt: log 2 at line 2\n"),
         ),
     ] {
-        let text = format!(in rt.alloc(); "lincs-refutation {log}")?;
-        let mut shelf = shelf(rt.alloc(), PROBLEM, MODEL, WORSE_IS_GOOD)?;
-        shelf.add("R.txt", text.as_bytes())?;
-        let line = "check-refutation P.yml A.csv R.txt";
-        runs(&rt, rt.alloc(), line, &mut shelf, want)?;
+        judges(&rt, rt.alloc(), WORSE_IS_GOOD, log, want)?;
     }
     Ok(())
 }

@@ -1,5 +1,5 @@
 //! Worked rows of `generate` and `rehearse`.
-use crate::session::{output, runs};
+use crate::session::{output, output_to_file, runs};
 use edge_core::MemShelf;
 use lincs_top::Status;
 use std::test::Fail;
@@ -56,14 +56,11 @@ fn drawn_rows_of_a_single_value_are_known_for_any_seed(rt: HostRuntime) -> Resul
 fn a_drawn_model_restores_the_table_that_it_sorts(rt: HostRuntime) -> Result<(), Fail> {
     let mut shelf = MemShelf::new(rt.alloc());
     let line = "generate classification-problem 16 10 --random-seed 7";
-    let problem = output(&rt, rt.alloc(), line, &mut shelf, Status::Done)?;
-    shelf.add("P.yml", problem.bytes())?;
+    output_to_file(&rt, rt.alloc(), line, &mut shelf, Status::Done, "P.yml")?;
     let line = "generate classification-model P.yml --random-seed 8";
-    let model = output(&rt, rt.alloc(), line, &mut shelf, Status::Done)?;
-    shelf.add("M.yml", model.bytes())?;
+    output_to_file(&rt, rt.alloc(), line, &mut shelf, Status::Done, "M.yml")?;
     let line = "generate classified-alternatives P.yml M.yml 100 --random-seed 9";
-    let table = output(&rt, rt.alloc(), line, &mut shelf, Status::Done)?;
-    shelf.add("A.csv", table.bytes())?;
+    let table = output_to_file(&rt, rt.alloc(), line, &mut shelf, Status::Done, "A.csv")?;
     let line = "classification-accuracy P.yml M.yml A.csv";
     runs(
         &rt,

@@ -1,10 +1,10 @@
 //! Worked rows of `learn`.
 use crate::session::{
-    MODEL, PROBLEM, PROBLEM_OF_THREE, PROBLEM_OF_TWO, output, runs, shelf, words,
+    MODEL, PROBLEM, PROBLEM_OF_THREE, PROBLEM_OF_TWO, end_of, output, output_to_file, runs, shelf,
 };
-use edge_core::MemSink;
-use lincs_top::{Status, run};
+use lincs_top::Status;
 use std::alloc::{AllocError, Global};
+use std::process::Abort;
 use std::test::Fail;
 
 const ENCODINGS: [&str; 2] = ["separation", "coalitions"];
@@ -25,6 +25,23 @@ sufficient_coalitions:
     kind: roots
 {coalitions}"
     )
+}
+
+/// Learns this model from a table by this encoding.
+fn learns(
+    rt: &impl Abort,
+    alloc: Global,
+    problem: &str,
+    table: &str,
+    encoding: &str,
+    learned: &str,
+) -> Result<(), Fail> {
+    let line = format!(in alloc;
+        "learn classification-model P.yml A.csv --encoding {encoding} --max-conflicts 1"
+    )?;
+    let mut shelf = shelf(alloc, problem, MODEL, table)?;
+    let want = (Status::Done, learned, "");
+    runs(rt, alloc, line.as_str(), &mut shelf, want)
 }
 
 #[test]
@@ -49,60 +66,59 @@ fn the_one_model_of_a_table_is_learned_by_either_encoding(rt: HostRuntime) -> Re
             "    upset_roots:\n      - [0]\n  - *coalitions\n",
         ),
     ] {
+        let want = learned(rt.alloc(), thresholds, coalitions)?;
         for encoding in ENCODINGS {
-            let want = learned(rt.alloc(), thresholds, coalitions)?;
-            let line = format!(in rt.alloc();
-                "learn classification-model P.yml A.csv --encoding {encoding} --max-conflicts 1"
-            )?;
-            let mut shelf = shelf(rt.alloc(), problem, MODEL, table)?;
-            let want = (Status::Done, want.as_str(), "");
-            runs(&rt, rt.alloc(), line.as_str(), &mut shelf, want)?;
+            learns(&rt, rt.alloc(), problem, table, encoding, want.as_str())?;
         }
     }
     Ok(())
 }
 
+/// Learns from a table by this encoding, and runs a second command line over the file of what is written.
+fn learns_for(
+    rt: &impl Abort,
+    alloc: Global,
+    table: &str,
+    encoding: &str,
+    file: (&str, Status),
+    second: (&str, &str),
+) -> Result<(), Fail> {
+    let line = format!(in alloc; "learn classification-model P.yml A.csv --encoding {encoding}")?;
+    let mut shelf = shelf(alloc, PROBLEM_OF_TWO, MODEL, table)?;
+    output_to_file(rt, alloc, line.as_str(), &mut shelf, file.1, file.0)?;
+    runs(
+        rt,
+        alloc,
+        second.0,
+        &mut shelf,
+        (Status::Done, second.1, ""),
+    )
+}
+
 #[test]
 fn a_learned_model_restores_every_example(rt: HostRuntime) -> Result<(), Fail> {
     let table = "name,U,V,category\na,0,0,Bad\nb,1,0,Bad\nc,1,1,Good\nd,0,1,Good\n";
+    let second = ("classification-accuracy P.yml L.yml A.csv", "4/4\n");
     for encoding in ENCODINGS {
-        let line = format!(in rt.alloc();
-            "learn classification-model P.yml A.csv --encoding {encoding}"
-        )?;
-        let mut shelf = shelf(rt.alloc(), PROBLEM_OF_TWO, MODEL, table)?;
-        let model = output(&rt, rt.alloc(), line.as_str(), &mut shelf, Status::Done)?;
-        shelf.add("L.yml", model.bytes())?;
-        let line = "classification-accuracy P.yml L.yml A.csv";
-        runs(
-            &rt,
-            rt.alloc(),
-            line,
-            &mut shelf,
-            (Status::Done, "4/4\n", ""),
-        )?;
+        let file = ("L.yml", Status::Done);
+        learns_for(&rt, rt.alloc(), table, encoding, file, second)?;
     }
     Ok(())
 }
 
 #[test]
 fn a_learned_refutation_is_accepted(rt: HostRuntime) -> Result<(), Fail> {
+    let second = ("check-refutation P.yml A.csv R.txt", "accepted\n");
     for encoding in ENCODINGS {
-        let line = format!(in rt.alloc();
-            "learn classification-model P.yml A.csv --encoding {encoding}"
-        )?;
-        let mut shelf = shelf(rt.alloc(), PROBLEM_OF_TWO, MODEL, BETTER_IS_BAD)?;
-        let log = output(&rt, rt.alloc(), line.as_str(), &mut shelf, Status::No)?;
-        shelf.add("R.txt", log.bytes())?;
-        let line = "check-refutation P.yml A.csv R.txt";
-        runs(
-            &rt,
-            rt.alloc(),
-            line,
-            &mut shelf,
-            (Status::Done, "accepted\n", ""),
-        )?;
+        let file = ("R.txt", Status::No);
+        learns_for(&rt, rt.alloc(), BETTER_IS_BAD, encoding, file, second)?;
     }
     Ok(())
+}
+
+/// The number of lines of a text.
+fn lines(text: &[u8]) -> usize {
+    text.iter().filter(|byte| **byte == b'\n').count()
 }
 
 // Unit propagation alone refutes nothing here, so that the first lemma reaches the limit.
@@ -110,28 +126,26 @@ fn a_learned_refutation_is_accepted(rt: HostRuntime) -> Result<(), Fail> {
 fn the_lemmas_at_the_limit_are_written(rt: HostRuntime) -> Result<(), Fail> {
     let mut shelf = shelf(rt.alloc(), PROBLEM_OF_TWO, MODEL, BETTER_IS_BAD)?;
     let line = "learn classification-model P.yml A.csv --max-conflicts 1";
-    let mut out = MemSink::new(rt.alloc());
-    let mut err = MemSink::new(rt.alloc());
-    let words = words(rt.alloc(), line)?;
-    let status = run(rt.alloc(), &words, &mut shelf, &mut out, &mut err);
-    assert_eq!(rt; status, Status::Limit);
-    assert_eq!(rt; err.bytes(), "lincs: limit of 1 reached\n".as_bytes());
-    let begin = b"lincs-refutation 1 separation\n7 ";
-    assert!(rt; out.bytes().starts_with(begin));
-    let ends = out.bytes().iter().filter(|byte| **byte == b'\n').count();
-    assert_eq!(rt; ends, 2);
+    let ended = end_of(rt.alloc(), line, &mut shelf, 0, 0)?;
+    let said = "lincs: limit of 1 reached\n".as_bytes();
+    let out = ended.out.bytes();
+    assert_eq!(rt;
+        (ended.status, ended.err.bytes(), lines(out)),
+        (Status::Limit, said, 2)
+    );
+    assert!(rt; out.starts_with(b"lincs-refutation 1 separation\n7 "));
     Ok(())
 }
 
-#[test]
-fn coalitions_of_13_criteria_are_too_wide(rt: HostRuntime) -> Result<(), Fail> {
+/// A problem of 13 criteria, and a table of no rows for it.
+fn files_of_13_criteria(alloc: Global) -> Result<(String, String), AllocError> {
     let mut problem = String::from_str(
-        rt.alloc(),
+        alloc,
         "kind: classification-problem\nformat_version: 1\ncriteria:\n",
     )?;
-    let mut table = String::from_str(rt.alloc(), "name")?;
+    let mut table = String::from_str(alloc, "name")?;
     for i in 0..13 {
-        let criterion = format!(in rt.alloc();
+        let criterion = format!(in alloc;
             "  - name: Speed{i}
     value_type: integer
     preference_direction: increasing
@@ -140,11 +154,17 @@ fn coalitions_of_13_criteria_are_too_wide(rt: HostRuntime) -> Result<(), Fail> {
 "
         )?;
         problem.push_str(criterion.as_str())?;
-        let column = format!(in rt.alloc(); ",Speed{i}")?;
+        let column = format!(in alloc; ",Speed{i}")?;
         table.push_str(column.as_str())?;
     }
     problem.push_str("ordered_categories:\n  - name: Bad\n  - name: Good\n")?;
     table.push_str(",category\n")?;
+    Ok((problem, table))
+}
+
+#[test]
+fn coalitions_of_13_criteria_are_too_wide(rt: HostRuntime) -> Result<(), Fail> {
+    let (problem, table) = files_of_13_criteria(rt.alloc())?;
     let mut shelf = shelf(rt.alloc(), problem.as_str(), MODEL, table.as_str())?;
     let line = "learn classification-model P.yml A.csv --encoding coalitions";
     let wide = "lincs: too wide: 13 criteria\n";

@@ -2,6 +2,7 @@
 use crate::session::{MODEL, PROBLEM, TABLE, edited, ends_with, refuses_edit};
 use lincs_top::Status;
 use std::alloc::{AllocError, Global};
+use std::process::Abort;
 use std::test::Fail;
 
 // A name of so many bytes.
@@ -45,24 +46,41 @@ fn a_problem_has_at_most_16_criteria_and_10_categories(rt: HostRuntime) -> Resul
     Ok(())
 }
 
+/// Gives a criterion, and then a value of a scale, a name of so many bytes: each run is refused with its
+/// cause.
+fn refuses_long_name(
+    rt: &impl Abort,
+    alloc: Global,
+    bytes: usize,
+    criterion: &str,
+    value: &str,
+) -> Result<(), Fail> {
+    let name = long_name(alloc, bytes)?;
+    let named = ("Speed", name.as_str(), criterion);
+    refuses_edit(rt, alloc, "P.yml", PROBLEM, named)?;
+    let scale = format!(in alloc; "enumerated\n    ordered_values: [x, {name}]")?;
+    let valued = ("integer", scale.as_str(), value);
+    refuses_edit(rt, alloc, "P.yml", PROBLEM, valued)
+}
+
+/// Gives a category a name of so many bytes, which is written.
+fn accepts_long_category(rt: &impl Abort, alloc: Global, bytes: usize) -> Result<(), Fail> {
+    let name = long_name(alloc, bytes)?;
+    let problem = edited(rt, alloc, PROBLEM, "Bad", name.as_str())?;
+    let sorted = format!(in alloc; "name,Speed,category\na,3,{name}\nb,7,Good\n")?;
+    let files = (problem.as_str(), MODEL, TABLE);
+    ends_with(rt, alloc, files, (Status::Done, sorted.as_str(), ""))
+}
+
 #[test]
 fn a_name_has_at_most_200_bytes(rt: HostRuntime) -> Result<(), Fail> {
     for (bytes, criterion, value) in [
         (200, "A.csv: table 3 at 1", "M.yml: model 7 at 0"),
         (201, "P.yml: problem 7 at 0", "P.yml: problem 11 at 0"),
     ] {
-        let name = long_name(rt.alloc(), bytes)?;
-        let named = ("Speed", name.as_str(), criterion);
-        refuses_edit(&rt, rt.alloc(), "P.yml", PROBLEM, named)?;
-        let scale = format!(in rt.alloc(); "enumerated\n    ordered_values: [x, {name}]")?;
-        let valued = ("integer", scale.as_str(), value);
-        refuses_edit(&rt, rt.alloc(), "P.yml", PROBLEM, valued)?;
+        refuses_long_name(&rt, rt.alloc(), bytes, criterion, value)?;
     }
-    let name = long_name(rt.alloc(), 200)?;
-    let problem = edited(&rt, rt.alloc(), PROBLEM, "Bad", name.as_str())?;
-    let sorted = format!(in rt.alloc(); "name,Speed,category\na,3,{name}\nb,7,Good\n")?;
-    let files = (problem.as_str(), MODEL, TABLE);
-    ends_with(&rt, rt.alloc(), files, (Status::Done, sorted.as_str(), ""))?;
+    accepts_long_category(&rt, rt.alloc(), 200)?;
     let longer = long_name(rt.alloc(), 201)?;
     let named = ("Bad", longer.as_str(), "P.yml: problem 14 at 0");
     refuses_edit(&rt, rt.alloc(), "P.yml", PROBLEM, named)

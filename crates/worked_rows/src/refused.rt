@@ -4,6 +4,7 @@ ghost use Rattle.std.specs.Prelude.{◌≡◌, IfOk, vec_len};
 use crate::session::{MODEL, PROBLEM, PROBLEM_OF_THREE, TABLE, ends_with, refuses, refuses_edit};
 use lincs_top::Status;
 use std::alloc::{AllocError, Global};
+use std::process::Abort;
 use std::test::Fail;
 
 #[test]
@@ -93,6 +94,15 @@ fn each_fault_of_a_table(rt: HostRuntime) -> Result<(), Fail> {
     )
 }
 
+/// Refuses a table whose rows after a good one are these.
+fn refuses_rows(rt: &impl Abort, alloc: Global, rows: &str, cause: &str) -> Result<(), Fail> {
+    let table = format!(in alloc; "name,Speed,category\na,3,\n{rows}")?;
+    let line = format!(in alloc; "lincs: A.csv: {cause}\n")?;
+    let files = (PROBLEM, MODEL, table.as_str());
+    let sorted = "name,Speed,category\na,3,Bad\n";
+    ends_with(rt, alloc, files, (Status::Refused, sorted, line.as_str()))
+}
+
 #[test]
 fn each_fault_of_a_row(rt: HostRuntime) -> Result<(), Fail> {
     for (rows, cause) in [
@@ -103,18 +113,7 @@ fn each_fault_of_a_row(rt: HostRuntime) -> Result<(), Fail> {
         ("b,11,\n", "row 2: 2 at 0: 3"),
         ("b,7,Ugly\n", "row 2: 3"),
     ] {
-        let table = format!(in rt.alloc(); "name,Speed,category\na,3,\n{rows}")?;
-        let line = format!(in rt.alloc(); "lincs: A.csv: {cause}\n")?;
-        ends_with(
-            &rt,
-            rt.alloc(),
-            (PROBLEM, MODEL, table.as_str()),
-            (
-                Status::Refused,
-                "name,Speed,category\na,3,Bad\n",
-                line.as_str(),
-            ),
-        )?;
+        refuses_rows(&rt, rt.alloc(), rows, cause)?;
     }
     Ok(())
 }

@@ -113,6 +113,60 @@ sufficient_coalitions:
     )
 }
 
+/// What a run ended with.
+#[derive(Drop)]
+pub struct Ended {
+    pub status: Status,
+    pub out: MemSink,
+    pub err: MemSink,
+}
+
+/// A sink whose write of this number fails; 0 is none.
+fn sink(alloc: Global, failing: u64) -> Result<MemSink, AllocError> {
+    let mut sink = MemSink::new(alloc);
+    if failing > 0 {
+        sink.fail_at(failing)?;
+    }
+    Ok(sink)
+}
+
+/// Runs the command line over these files, and returns its status.
+fn status_of(
+    alloc: Global,
+    line: &str,
+    shelf: &mut MemShelf,
+    out: &mut MemSink,
+    err: &mut MemSink,
+) -> Result<Status, AllocError> {
+    let words = words(alloc, line)?;
+    Ok(run(alloc, &words, shelf, out, err))
+}
+
+/// Runs the command line over these files. Write `failing_out` of the output fails, and write
+/// `failing_err` of the error output; 0 is none.
+pub fn end_of(
+    alloc: Global,
+    line: &str,
+    shelf: &mut MemShelf,
+    failing_out: u64,
+    failing_err: u64,
+) -> Result<Ended, AllocError> {
+    let mut out = sink(alloc, failing_out)?;
+    let mut err = sink(alloc, failing_err)?;
+    let status = status_of(alloc, line, shelf, &mut out, &mut err)?;
+    Ok(Ended { status, out, err })
+}
+
+/// Looks at the status, the output and the error output of a run.
+pub fn compare(rt: &impl Abort, ended: &Ended, want: Want<'_>) {
+    let (status, out, err) = want;
+    assert_eq!(rt;
+        (ended.err.bytes(), ended.out.bytes(), ended.status),
+        (err.as_bytes(), out.as_bytes(), status),
+        "{err}"
+    );
+}
+
 /// Runs the command line over these files, and looks at its status, its output and its error line.
 pub fn runs(
     rt: &impl Abort,
@@ -121,13 +175,8 @@ pub fn runs(
     shelf: &mut MemShelf,
     want: Want<'_>,
 ) -> Result<(), Fail> {
-    let mut out = MemSink::new(alloc);
-    let mut err = MemSink::new(alloc);
-    let status = run(alloc, &words(alloc, line)?, shelf, &mut out, &mut err);
-    let what = want.2;
-    assert_eq!(rt; err.bytes(), want.2.as_bytes(), "{what}");
-    assert_eq!(rt; out.bytes(), want.1.as_bytes(), "{what}");
-    assert_eq!(rt; status, want.0, "{what}");
+    let ended = end_of(alloc, line, shelf, 0, 0)?;
+    compare(rt, &ended, want);
     Ok(())
 }
 
@@ -139,11 +188,26 @@ pub fn output(
     shelf: &mut MemShelf,
     status: Status,
 ) -> Result<MemSink, Fail> {
-    let mut out = MemSink::new(alloc);
-    let mut err = MemSink::new(alloc);
-    let ended = run(alloc, &words(alloc, line)?, shelf, &mut out, &mut err);
-    assert_eq!(rt; ended, status, "{line}");
-    assert_eq!(rt; err.bytes(), "".as_bytes(), "{line}");
+    let ended = end_of(alloc, line, shelf, 0, 0)?;
+    assert_eq!(rt;
+        (ended.status, ended.err.bytes()),
+        (status, "".as_bytes()),
+        "{line}"
+    );
+    Ok(ended.out)
+}
+
+/// Runs it, and adds what it writes to the files under this name.
+pub fn output_to_file(
+    rt: &impl Abort,
+    alloc: Global,
+    line: &str,
+    shelf: &mut MemShelf,
+    status: Status,
+    name: &str,
+) -> Result<MemSink, Fail> {
+    let out = output(rt, alloc, line, shelf, status)?;
+    shelf.add(name, out.bytes())?;
     Ok(out)
 }
 

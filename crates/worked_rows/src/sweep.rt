@@ -1,7 +1,7 @@
 //! Every command, with each call of the outside failing in turn.
-use crate::session::{MODEL, PROBLEM, PROBLEM_OF_TWO, TABLE, runs, words};
-use edge_core::{MemShelf, MemSink};
-use lincs_top::{Status, run};
+use crate::session::{Ended, MODEL, PROBLEM, PROBLEM_OF_TWO, TABLE, end_of, runs};
+use edge_core::MemShelf;
+use lincs_top::Status;
 use std::alloc::{AllocError, Global};
 use std::process::Abort;
 use std::test::Fail;
@@ -147,76 +147,96 @@ fn files(alloc: Global) -> Result<MemShelf, AllocError> {
     Ok(shelf)
 }
 
-/// What a run ends with.
-#[derive(Drop)]
-struct Ended {
-    status: Status,
-    out: MemSink,
-    err: MemSink,
-}
-
 /// Runs a command line over the files of all cases. Write `failing_out` of the output fails, and write
 /// `failing_err` of the error output; 0 is none.
-fn end_of(
+fn end_of_case(
     alloc: Global,
     line: &str,
     failing_out: u64,
     failing_err: u64,
 ) -> Result<Ended, AllocError> {
     let mut shelf = files(alloc)?;
-    let mut out = MemSink::new(alloc);
-    let mut err = MemSink::new(alloc);
-    if failing_out > 0 {
-        out.fail_at(failing_out)?;
-    }
-    if failing_err > 0 {
-        err.fail_at(failing_err)?;
-    }
-    let words = words(alloc, line)?;
-    let status = run(alloc, &words, &mut shelf, &mut out, &mut err);
-    Ok(Ended { status, out, err })
+    end_of(alloc, line, &mut shelf, failing_out, failing_err)
 }
 
-// Each file takes an open, a read with bytes and a read at the end.
-#[test]
-fn each_failing_read_of_each_command_names_its_file(rt: HostRuntime) -> Result<(), Fail> {
-    for (line, names, status) in CASES {
-        let mut call = 0u64;
-        for name in names.split(' ') {
-            if name.is_empty() {
-                continue;
-            }
-            let want = format!(in rt.alloc(); "lincs: cannot read {name}\n")?;
-            for _ in 0..3 {
-                call = call.wrapping_add(1);
-                let mut shelf = files(rt.alloc())?;
-                shelf.fail_at(call)?;
-                let want = (Status::ReadFault, "", want.as_str());
-                runs(&rt, rt.alloc(), line, &mut shelf, want)?;
-            }
+/// Fails this call of the files, in which a command reads the file of this name.
+fn fail_read(
+    rt: &impl Abort,
+    alloc: Global,
+    line: &str,
+    name: &str,
+    call: u64,
+) -> Result<(), Fail> {
+    let want = format!(in alloc; "lincs: cannot read {name}\n")?;
+    let mut shelf = files(alloc)?;
+    shelf.fail_at(call)?;
+    let want = (Status::ReadFault, "", want.as_str());
+    runs(rt, alloc, line, &mut shelf, want)
+}
+
+/// Fails each call of a command's files in turn. Each file takes an open, a read with bytes and a read
+/// at the end.
+fn fail_each_read(rt: &impl Abort, alloc: Global, line: &str, names: &str) -> Result<(), Fail> {
+    let mut call = 0u64;
+    for name in names.split(' ') {
+        if name.is_empty() {
+            continue;
         }
-        assert_eq!(rt; end_of(rt.alloc(), line, 0, 0)?.status, status, "{line}");
+        for _ in 0..3 {
+            call = call.wrapping_add(1);
+            fail_read(rt, alloc, line, name, call)?;
+        }
     }
     Ok(())
 }
 
+/// Runs a command that meets no failure.
+fn fail_none(rt: &impl Abort, alloc: Global, line: &str, status: Status) -> Result<(), Fail> {
+    let ended = end_of_case(alloc, line, 0, 0)?;
+    assert_eq!(rt; ended.status, status, "{line}");
+    Ok(())
+}
+
+#[test]
+fn each_failing_read_of_each_command_names_its_file(rt: HostRuntime) -> Result<(), Fail> {
+    for (line, names, status) in CASES {
+        fail_each_read(&rt, rt.alloc(), line, names)?;
+        fail_none(&rt, rt.alloc(), line, status)?;
+    }
+    Ok(())
+}
+
+/// Fails this write of a command's output, and returns whether the run made it.
+fn fail_write(
+    rt: &impl Abort,
+    alloc: Global,
+    line: &str,
+    status: Status,
+    whole: &[u8],
+    call: u64,
+) -> Result<bool, Fail> {
+    let cut = end_of_case(alloc, line, call, 0)?;
+    let out = cut.out.bytes();
+    if cut.status == status {
+        assert!(rt; out == whole, "{line}");
+        return Ok(false);
+    }
+    assert_eq!(rt;
+        (cut.status, cut.err.bytes()),
+        (Status::WriteFault, "lincs: cannot write\n".as_bytes()),
+        "{line}"
+    );
+    assert!(rt; whole.starts_with(out) && out.len() < whole.len(), "{line}");
+    Ok(true)
+}
+
 /// Fails each write of a command's output in turn, until a run meets no failure.
 fn fail_each_write(rt: &impl Abort, alloc: Global, line: &str, status: Status) -> Result<(), Fail> {
-    let whole = end_of(alloc, line, 0, 0)?;
+    let whole = end_of_case(alloc, line, 0, 0)?;
     for call in 1..100u64 {
-        let cut = end_of(alloc, line, call, 0)?;
-        if cut.status == status {
-            assert!(rt; cut.out.bytes() == whole.out.bytes(), "{line}");
+        if !fail_write(rt, alloc, line, status, whole.out.bytes(), call)? {
             return Ok(());
         }
-        assert_eq!(rt; cut.status, Status::WriteFault, "{line}");
-        assert!(rt; whole.out.bytes().starts_with(cut.out.bytes()), "{line}");
-        assert!(rt; cut.out.bytes().len() < whole.out.bytes().len(), "{line}");
-        assert_eq!(rt;
-            cut.err.bytes(),
-            "lincs: cannot write\n".as_bytes(),
-            "{line}"
-        );
     }
     assert!(rt; false, "{line} writes too often");
     Ok(())
@@ -230,15 +250,30 @@ fn each_failing_write_of_each_command_leaves_a_prefix(rt: HostRuntime) -> Result
     Ok(())
 }
 
+/// Fails this write of a command's error output, and returns whether the run made it.
+fn fail_word(
+    rt: &impl Abort,
+    alloc: Global,
+    line: &str,
+    status: Status,
+    whole: &Ended,
+    call: u64,
+) -> Result<bool, Fail> {
+    let cut = end_of_case(alloc, line, 0, call)?;
+    let (all, err) = (whole.err.bytes(), cut.err.bytes());
+    assert_eq!(rt; cut.status, status, "{line}");
+    assert!(rt;
+        cut.out.bytes() == whole.out.bytes() && all.starts_with(err),
+        "{line}"
+    );
+    Ok(err.len() != all.len())
+}
+
 /// Fails each write of a command's error output in turn, until a run meets no failure.
 fn fail_each_word(rt: &impl Abort, alloc: Global, line: &str, status: Status) -> Result<(), Fail> {
-    let whole = end_of(alloc, line, 0, 0)?;
+    let whole = end_of_case(alloc, line, 0, 0)?;
     for call in 1..100u64 {
-        let cut = end_of(alloc, line, 0, call)?;
-        assert_eq!(rt; cut.status, status, "{line}");
-        assert!(rt; cut.out.bytes() == whole.out.bytes(), "{line}");
-        assert!(rt; whole.err.bytes().starts_with(cut.err.bytes()), "{line}");
-        if cut.err.bytes().len() == whole.err.bytes().len() {
+        if !fail_word(rt, alloc, line, status, &whole, call)? {
             return Ok(());
         }
     }

@@ -8,6 +8,8 @@ mod clauses;
 #[cfg(test)]
 mod implications;
 #[cfg(test)]
+mod lists;
+#[cfg(test)]
 mod logs;
 #[cfg(test)]
 mod pigeons;

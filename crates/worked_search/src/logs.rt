@@ -100,19 +100,35 @@ fn logs_are_accepted_or_refused_by_their_first_fault(rt: HostRuntime) -> Result<
     Ok(())
 }
 
+/// The text of the formula of one value in two categories.
+fn formula_text(alloc: Global) -> Result<Vec<u8>, Fail> {
+    let formula = one_value_in_two_categories(alloc)?;
+    let mut text = Vec::new(alloc);
+    put_dimacs(&formula, &mut text)?;
+    Ok(text)
+}
+
+/// The encoding of a log, and its text after it is read.
+fn log_text(alloc: Global, text: &[u8]) -> Result<(Encoding, Vec<u8>), Fail> {
+    if text.len() > MOST_BYTES {
+        return Err("too long".into());
+    }
+    let (encoding, log) = read_log(alloc, text).ok().ok_or("not read")?;
+    let mut written = Vec::new(alloc);
+    write_log(encoding, &log, &mut written)?;
+    Ok((encoding, written))
+}
+
 #[test]
 fn texts_are_written(rt: HostRuntime) -> Result<(), Fail> {
-    let mut dimacs = Vec::new(rt.alloc());
-    put_dimacs(&one_value_in_two_categories(rt.alloc())?, &mut dimacs)?;
+    let dimacs = formula_text(rt.alloc())?;
     assert_eq!(rt;
         dimacs.as_slice(),
         b"p cnf 2 3\n-2 1 0\n-2 -1 0\n2 0\n".as_slice()
     );
 
     let text = b"lincs-refutation 1 coalitions\n7 -4 5 0 1 2 0\n8 0 0\n".as_slice();
-    let (encoding, log) = read_log(rt.alloc(), text).ok().ok_or("not read")?;
-    let mut written = Vec::new(rt.alloc());
-    write_log(encoding, &log, &mut written)?;
+    let (encoding, written) = log_text(rt.alloc(), text)?;
     assert_eq!(rt; encoding, Encoding::Coalitions);
     assert_eq!(rt; written.as_slice(), text);
     Ok(())

@@ -33,8 +33,31 @@ fn add(watched: &mut Watched<SmallLit>, first: u8, second: u8) -> Result<Added, 
     watched.add_clause(&[literal(first), literal(second)])
 }
 
-/// The clauses `-2 3`, `-4 1`, `-4 -1`, `-5 2`, `-5 -3` and `4 5`: after 4 is decided, one of `-4 1` and `-4 -1` is
-/// false.
+/// Adds the clauses `-2 3`, `-4 1`, `-4 -1`, `-5 2`, `-5 -3` and `4 5`. Returns what is told of the second and the last.
+fn add_six(watched: &mut Watched<SmallLit>) -> Result<(Added, Added), AllocError>
+    requires trail { watched.old.trail ≡ empty_trail 5 }
+    requires none { watched.old.clauses ≡ [] }
+    ensures trail { watched.new.trail ≡ empty_trail 5 }
+{
+    add(watched, 3, 4)?;
+    let second = add(watched, 7, 0)?;
+    add(watched, 7, 1)?;
+    add(watched, 9, 2)?;
+    add(watched, 9, 5)?;
+    let last = add(watched, 6, 8)?;
+    Ok((second, last))
+}
+
+/// Decides the fourth variable on an empty trail, and propagates.
+fn conflict_of<S: Ledger>(watched: &mut Watched<SmallLit>, looks: &mut Steps<S>) -> Option<ClauseId>
+    requires trail { watched.old.trail ≡ empty_trail 5 }
+    ensures variables { watched.new.trail.variables ≡ 5 }
+{
+    watched.decide(literal(6));
+    watched.propagate(looks)
+}
+
+/// After 4 is decided, one of `-4 1` and `-4 -1` is false.
 fn meets_a_false_clause<S: Ledger>(rt: &impl Abort, alloc: Global, blank: Blank) -> Result<(), Fail>
     requires name { blank.name ≡ S.name }
     requires parts { blank.parts ≡ S.parts }
@@ -42,16 +65,9 @@ fn meets_a_false_clause<S: Ledger>(rt: &impl Abort, alloc: Global, blank: Blank)
 {
     let mut looks = Steps::<S>::new(blank);
     let mut watched = Watched::new(alloc, 5)?;
-    add(&mut watched, 3, 4)?;
-    let second = add(&mut watched, 7, 0)?;
-    add(&mut watched, 7, 1)?;
-    add(&mut watched, 9, 2)?;
-    add(&mut watched, 9, 5)?;
-    let last = add(&mut watched, 6, 8)?;
-    assert_eq!(rt; second.standing, Standing::Free);
-    assert_eq!(rt; last.id.number(), 5);
-    watched.decide(literal(6));
-    assert_eq!(rt; watched.propagate(&mut looks), Some(second.id));
+    let (second, last) = add_six(&mut watched)?;
+    assert_eq!(rt; (second.standing, last.id.number()), (Standing::Free, 5));
+    assert_eq!(rt; conflict_of(&mut watched, &mut looks), Some(second.id));
     assert_eq!(rt; watched.trail().order(), &[literal(6), literal(1)][..]);
     assert_eq!(rt; watched.trail().reason_of(0), Some(ClauseId::numbered(2)));
     watched.undo_to(0);

@@ -27,6 +27,35 @@ fn words(alloc: Global, line: &str) -> Result<Vec<String>, AllocError> {
     Ok(words)
 }
 
+/// Runs the command line over these files, and writes to these outputs.
+fn run_line(
+    alloc: Global,
+    line: &str,
+    shelf: &mut MemShelf,
+    out: &mut MemSink,
+    err: &mut MemSink,
+) -> Result<(), AllocError> {
+    let words = words(alloc, line)?;
+    run(alloc, &words, shelf, out, err);
+    Ok(())
+}
+
+/// What the screen shows after a step that wrote this.
+fn screen_of(
+    alloc: Global,
+    step: &Step<'_>,
+    out: &[u8],
+    err: &[u8],
+) -> Result<Vec<u8>, AllocError> {
+    let mut screen = Vec::new(alloc);
+    if step.screen {
+        screen.extend_from_slice(out)?;
+    }
+    screen.extend_from_slice(err)?;
+    Ok(screen)
+}
+
+/// Takes a step: runs its line, looks at the screen, and keeps its output if it goes to a file.
 fn take_step(
     rt: &impl Abort,
     alloc: Global,
@@ -36,12 +65,8 @@ fn take_step(
     let mut out = MemSink::new(alloc);
     let mut err = MemSink::new(alloc);
     let line = step.line;
-    run(alloc, &words(alloc, line)?, shelf, &mut out, &mut err);
-    let mut screen = Vec::new(alloc);
-    if step.screen {
-        screen.extend_from_slice(out.bytes())?;
-    }
-    screen.extend_from_slice(err.bytes())?;
+    run_line(alloc, line, shelf, &mut out, &mut err)?;
+    let screen = screen_of(alloc, step, out.bytes(), err.bytes())?;
     assert!(rt; screen.as_slice() == step.shown.as_bytes(), "{line}");
     if !step.target.is_empty() {
         shelf.add(step.target, out.bytes())?;
