@@ -19,6 +19,8 @@ const PIECE: usize = 65_536;
 pub struct FileShelf<'a, R: Files> {
     rt: &'a R,
     file: Option<R::File>,
+    /// Where the system puts bytes, since std says nothing of the rest of a buffer that it reads into.
+    piece: [u8; PIECE],
     taken: u64,
     faults: u64,
     note: NameNote,
@@ -35,6 +37,7 @@ impl<'a, R: Files> FileShelf<'a, R> {
         FileShelf {
             rt,
             file: None,
+            piece: [0; PIECE],
             taken: 0,
             faults: 0,
             note: NameNote::new(),
@@ -71,10 +74,9 @@ impl<R: Files> Shelf for FileShelf<'_, R> {
         }
     }
 
-    // std says nothing of the rest of the buffer, so the bytes come through an array.
     fn read(&mut self, buf: &mut [u8]) -> Result<usize, Failed> {
-        let mut piece = [0u8; PIECE];
         let room = buf.len().min(PIECE);
+        let piece = &mut self.piece[..];
         if let Some(file) = &mut self.file {
             if let Ok(count) = file.read(&mut piece[..room]) {
                 buf[..count].copy_from_slice(&piece[..count]);
